@@ -1,0 +1,6 @@
+pub mod Kinds
+pub mod Causes
+pub mod Ordered
+pub mod Limits
+pub mod Axioms
+pub mod Steps

@@ -1,0 +1,2 @@
+pub mod Layering
+mod Slotting

@@ -1,0 +1,9 @@
+use mathlib.Core.Path.{sym, subst}
+use Rattle.sheets.specs.Slots.{most-slots, All-formed}
+use Rattle.sheets.proofs.Slotting.{formed-none}
+use Rattle.sheets.proofs.workbook.Workbook.new.Needs as need
+
+pub ghost-result : need.ghost-result
+ghost-result c =
+    let n = c .args .counts in
+    (subst (All-formed (n .classes) (n .properties)) (sym (c .new .ensures .all-vacant)) (formed-none (n .classes) (n .properties) most-slots), tt)
