@@ -1,9 +1,9 @@
 //! Why a place cannot be read.
 ghost use mathlib.Core.Path.{_≡_};
 ghost use Rattle.sheets.specs.Faults.{«no-such-place», deeper as «one-deeper»};
-use axioms::causes::Cause;
-use axioms::causes::CauseDebug;
-use axioms::causes::CausePartialEq;
+use axioms::Cause;
+use axioms::CauseDebug;
+use axioms::CausePartialEq;
 
 /// A cause, the place on the sheet where the fault arose, and how many layers handed it up.
 #[derive(Clone, Copy, PartialEq, Eq, Debug)]

@@ -4,8 +4,8 @@ ghost use Rattle.sheets.specs.Layers.{above as «above-floor», «floor-conten
 use crate::faults::Fault;
 use crate::layers::read_below;
 use crate::sheet::Sheet;
-use axioms::axiom_types::Axiom;
-use axioms::trust::Trust;
+use axioms::Axiom;
+use axioms::Trust;
 
 #[derive(Drop)]
 pub struct Floor<S: Sheet> {

@@ -4,7 +4,7 @@ ghost use Rattle.sheets.specs.Contents.{answer};
 ghost use Rattle.sheets.specs.Layers.{«one-up», «handed-up»};
 use crate::faults::Fault;
 use crate::sheet::Sheet;
-use axioms::axiom_types::Axiom;
+use axioms::Axiom;
 
 fn one_deeper(answer: Result<Option<Axiom>, Fault>) -> Result<Option<Axiom>, Fault>
     ensures { λ r. ⌜ r ≡ «one-up» «answer» ⌝ }

@@ -5,9 +5,9 @@ ghost use Prim.Native.Nat.{ℕ};
 ghost use Rattle.std.specs.Vec.{refused};
 ghost use Rattle.sheets.specs.OpenSheets.{meaning, NoFaultFewPlaces, Statement, Withdrawal};
 use crate::sheet::Sheet;
-use axioms::axiom_types::Axiom;
-use axioms::axiom_types::RawAxiom;
-use axioms::causes::Cause;
+use axioms::Axiom;
+use axioms::Cause;
+use axioms::RawAxiom;
 
 pub trait OpenSheet: Sheet {
     /// How many more statements it takes.

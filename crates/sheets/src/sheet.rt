@@ -3,7 +3,7 @@ ghost use mathlib.Core.Path.{_≡_};
 ghost use lib.ListN.{length};
 ghost use Rattle.sheets.specs.Contents.{Content, Sound, answer};
 use crate::faults::Fault;
-use axioms::axiom_types::Axiom;
+use axioms::Axiom;
 
 pub trait Sheet {
     /// The two counts and the list of places.

@@ -3,11 +3,11 @@ ghost use mathlib.Core.Path.{_≡_};
 ghost use Prim.Native.Nat.{_≤_};
 ghost use lib.ListN.{length};
 ghost use Rattle.sheets.specs.Slots.{«most-slots», «All-formed»};
-use axioms::axiom_types::Axiom;
-use axioms::counts::Counts;
+use axioms::Axiom;
+use axioms::Counts;
 
-pub mod as_open_sheet;
-pub mod as_sheet;
+pub(crate) mod as_open_sheet;
+pub(crate) mod as_sheet;
 mod slot_table;
 
 pub const SLOTS: usize = 512;

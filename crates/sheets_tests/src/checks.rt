@@ -1,14 +1,14 @@
 //! The check of raw numbers.
-use axioms::axiom_check::check;
-use axioms::axiom_types::Axiom;
-use axioms::axiom_types::AxiomDebug;
-use axioms::axiom_types::AxiomPartialEq;
-use axioms::axiom_types::RawAxiom;
-use axioms::causes::Cause;
-use axioms::causes::CauseDebug;
-use axioms::causes::CausePartialEq;
-use axioms::counts::Counts;
-use axioms::kinds::Kind;
+use axioms::Axiom;
+use axioms::AxiomDebug;
+use axioms::AxiomPartialEq;
+use axioms::Cause;
+use axioms::CauseDebug;
+use axioms::CausePartialEq;
+use axioms::Counts;
+use axioms::Kind;
+use axioms::RawAxiom;
+use axioms::check;
 use std::test::Fail;
 use std::test::check_eq;
 

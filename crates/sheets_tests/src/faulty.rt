@@ -1,9 +1,9 @@
 //! A sheet with one place, which is faulty.
 ghost use mathlib.Core.List.{[], _∷_};
 ghost use Rattle.std.specs.declared.result.Result.the-variants.{Err};
-use axioms::axiom_types::Axiom;
-use sheets::faults::Fault;
-use sheets::sheet::Sheet;
+use axioms::Axiom;
+use sheets::Fault;
+use sheets::Sheet;
 
 #[derive(Clone, Copy)]
 pub struct FaultySheet(pub Fault);

@@ -1,6 +1,6 @@
 //! A small trading vocabulary: who supplies tiles and grout to whom, under which contracts.
-use axioms::kinds::Kind;
-use axioms::kinds::Sort;
+use axioms::Kind;
+use axioms::Sort;
 
 pub(crate) const CLASSES: u16 = 6;
 

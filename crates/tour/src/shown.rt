@@ -1,7 +1,7 @@
 //! Axioms and answers as text for people.
 use crate::sample::name;
-use axioms::axiom_types::Axiom;
-use sheets::faults::Fault;
+use axioms::Axiom;
+use sheets::Fault;
 use std::fmt;
 
 #[derive(Clone, Copy)]

@@ -4,10 +4,10 @@ use crate::open_sheet::OpenSheet;
 use crate::sheet::Sheet;
 use crate::workbook::Workbook;
 use crate::workbook::as_sheet::WorkbookSheet;
-use axioms::axiom_check::check;
-use axioms::axiom_types::Axiom;
-use axioms::axiom_types::RawAxiom;
-use axioms::causes::Cause;
+use axioms::Axiom;
+use axioms::Cause;
+use axioms::RawAxiom;
+use axioms::check;
 
 pub impl OpenSheet for Workbook as WorkbookOpenSheet {
     ghost room = { λ w. book w .room };

@@ -9,8 +9,8 @@ use crate::faults::Fault;
 use crate::sheet::Sheet;
 use crate::workbook::Slots;
 use crate::workbook::Workbook;
-use axioms::axiom_types::Axiom;
-use axioms::counts::Counts;
+use axioms::Axiom;
+use axioms::Counts;
 
 impl Workbook {
     /// A workbook with no place yet.

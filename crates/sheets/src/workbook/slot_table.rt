@@ -14,8 +14,8 @@ ghost use Rattle.sheets.specs.Slots.{«most-slots»};
 use crate::faults::Fault;
 use crate::workbook::SLOTS;
 use crate::workbook::Slots;
-use axioms::axiom_types::Axiom;
-use axioms::causes::Cause;
+use axioms::Axiom;
+use axioms::Cause;
 
 impl Slots {
     pub(crate) fn new() -> Slots
