@@ -31,7 +31,7 @@ module _ (c p : ℕ) (raw : RawAxiom) where
 
   pub axiom-exactly : (r : Result Axiom Cause) → Outcome r → (a : Axiom) → (r ≡ Ok a) ↔ (States raw a × (well-formed c p a ≡ true))
   axiom-exactly (Ok b) o a =
-      (λ e. let is : b ≡ a = cc in subst (λ x. States raw x × (well-formed c p x ≡ true)) is o, λ h. ap Ok (same-axiom c p raw b a (o .0) (h .0)))
+      (λ e. let is : b ≡ a = cc in subst (λ x. States raw x × (well-formed c p x ≡ true)) is o, λ h. ap Ok (same-axiom raw b a (o .0) (h .0)))
   axiom-exactly (Err e) o a =
       (λ h. let z : _≡_ {A = ℕ} 0 1 = cc in absurd (omega arith), λ h. absurd (none-not-first (raw-grounds c p raw) e (no-cause-for-formed c p raw a (h .0) (h .1)) o))
 

@@ -41,28 +41,13 @@ code-of-kind n (j ∷ js) k h =
 pub same-kind : (j k : Kind) → row j .code ≡ row k .code → j ≡ k
 same-kind j k h = let e = sym (kind-of-code j) ∙ ap kind-of h ∙ kind-of-code k in cc
 
-module _ (c p : ℕ) (raw : RawAxiom) where
+module _ (raw : RawAxiom) where
   -- a test on a kind and names gives the same at the same kind and names
   alike : (test : Kind → ℕ → ℕ → Bool) (a : Axiom) (k : Kind) → States raw a → row k .code ≡ raw .kind → test k (raw .left) (raw .right) ≡ test (a .kind) (a .left) (a .right)
   alike test a k st h =
       ap (λ j. test j (raw .left) (raw .right)) (same-kind k (a .kind) (h ∙ sym (st .kind)))
       ∙ ap (λ n. test (a .kind) n (raw .right)) (sym (st .left))
       ∙ ap (λ n. test (a .kind) (a .left) n) (sym (st .right))
-
-  -- no cause fits the numbers of a well-formed axiom
-  pub no-cause-for-formed : (a : Axiom) → States raw a → well-formed c p a ≡ true → NoneFits (raw-grounds c p raw)
-  no-cause-for-formed a st wf =
-      let n = and-parts (names-in-range c p (a .kind) (a .left) (a .right)) _ wf in
-      let t = and-parts (in-trust (a .trust)) _ (n .1) in (
-        λ r x. x .0 (a .kind) (st .kind),
-        (
-          λ r x. both-ways _ (x .0 .2) (alike (names-in-range c p) a (x .0 .0) st (x .0 .1) ∙ n .0),
-          (
-            λ r x. both-ways _ (x .0) (ap in-trust (sym (st .trust)) ∙ t .0),
-            (λ r x. both-ways _ (x .0 .2) (alike names-apart a (x .0 .0) st (x .0 .1) ∙ t .1), tt),
-          ),
-        ),
-      )
 
   -- the raw numbers state one axiom
   pub same-axiom : (a b : Axiom) → States raw a → States raw b → a ≡ b
@@ -72,3 +57,19 @@ module _ (c p : ℕ) (raw : RawAxiom) where
       let r = s .right ∙ sym (t .right) in
       let u = s .trust ∙ sym (t .trust) in
       λ i. record { kind = k i; left = l i; right = r i; trust = u i }
+
+module _ (c p : ℕ) (raw : RawAxiom) where
+  -- no cause fits the numbers of a well-formed axiom
+  pub no-cause-for-formed : (a : Axiom) → States raw a → well-formed c p a ≡ true → NoneFits (raw-grounds c p raw)
+  no-cause-for-formed a st wf =
+      let n = and-parts (names-in-range c p (a .kind) (a .left) (a .right)) _ wf in
+      let t = and-parts (in-trust (a .trust)) _ (n .1) in (
+        λ r x. x .0 (a .kind) (st .kind),
+        (
+          λ r x. both-ways _ (x .0 .2) (alike raw (names-in-range c p) a (x .0 .0) st (x .0 .1) ∙ n .0),
+          (
+            λ r x. both-ways _ (x .0) (ap in-trust (sym (st .trust)) ∙ t .0),
+            (λ r x. both-ways _ (x .0 .2) (alike raw names-apart a (x .0 .0) st (x .0 .1) ∙ t .1), tt),
+          ),
+        ),
+      )
