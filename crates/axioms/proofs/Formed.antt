@@ -3,11 +3,13 @@ use mathlib.Core.Path.{_≡_, refl, sym, ap, _∙_}
 use mathlib.Core.List.{List, [], _∷_}
 use mathlib.Core.Bool.{Bool, true}
 use mathlib.Core.Logic.{⊎-elim}
-use Prim.Native.Nat.{ℕ}
+use Prim.Native.Nat.{ℕ, zero, suc}
 use native.Mathlib.Omega.{arith}
 use lib.Dec.{eqb}
+use lib.ListN.{getD, set, replicate}
 use Rattle.std.proofs.shelf.Tests.{both-ways, cases-bool, cond-true, cond-false, eqb-true, and-parts}
-use Rattle.std.specs.declared.option.Option.the-variants.{Some}
+use Rattle.std.specs.declared.option.Option.{Option}
+use Rattle.std.specs.declared.option.Option.the-variants.{Some, None}
 use Rattle.axioms.specs.declared.kinds.Kind.{Kind}
 use Rattle.axioms.specs.declared.kinds.Kind.the-variants.{Csub, Psub, Cdis, Pdis, Dom, Ran, Psubinv, Pdisinv}
 use Rattle.axioms.specs.declared.axiom_types.Axiom.{Axiom}
@@ -15,7 +17,7 @@ use Rattle.axioms.specs.declared.axiom_types.RawAxiom.{RawAxiom}
 use Rattle.axioms.specs.Kinds.{row}
 use Rattle.axioms.specs.Limits.{in-trust}
 use Rattle.axioms.specs.Ordered.{NoneFits}
-use Rattle.axioms.specs.Axioms.{names-in-range, names-apart, well-formed, States, raw-grounds}
+use Rattle.axioms.specs.Axioms.{names-in-range, names-apart, well-formed, All-formed, States, raw-grounds}
 use Rattle.axioms.specs.Steps.{with-code, kind-of}
 
 -- the code of a kind names it
@@ -73,3 +75,21 @@ module _ (c p : ℕ) (raw : RawAxiom) where
           ),
         ),
       )
+
+-- an axiom that stands at changed places was put there, or stood there before
+pub formed-set : (c p : ℕ) (places : List (Option Axiom)) (i : ℕ) (o : Option Axiom) → ((a : Axiom) → o ≡ Some a → well-formed c p a ≡ true)
+    → All-formed c p places → All-formed c p (set places i o)
+formed-set c p [] i o ok h k a e = h k a e
+formed-set c p (x ∷ xs) zero o ok h zero a e = ok a e
+formed-set c p (x ∷ xs) zero o ok h (suc k) a e = h (suc k) a e
+formed-set c p (x ∷ xs) (suc i) o ok h zero a e = h 0 a e
+formed-set c p (x ∷ xs) (suc i) o ok h (suc k) a e = formed-set c p xs i o ok (λ j. h (suc j)) k a e
+
+none-at : (n k : ℕ) → getD (replicate {A = Option Axiom} n None) k None ≡ None
+none-at zero k = refl
+none-at (suc n) zero = refl
+none-at (suc n) (suc k) = none-at n k
+
+-- vacant places hold no axiom
+pub formed-none : (c p n : ℕ) → All-formed c p (replicate n None)
+formed-none c p n k a e = let d : None ≡ Some a = sym (none-at n k) ∙ e in let z : _≡_ {A = ℕ} 0 1 = cc in absurd (omega arith)

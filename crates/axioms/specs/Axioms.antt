@@ -1,9 +1,12 @@
 -- Which axioms are well formed, and why raw numbers are refused.
 use mathlib.Core.Path.{_≡_}
-use mathlib.Core.Bool.{Bool, false, not, _&&_}
+use mathlib.Core.Bool.{Bool, true, false, not, _&&_}
 use mathlib.Core.List.{List, [], _∷_}
 use Prim.Native.Nat.{ℕ}
 use lib.Dec.{eqb, ltb}
+use lib.ListN.{getD}
+use Rattle.std.specs.declared.option.Option.{Option}
+use Rattle.std.specs.declared.option.Option.the-variants.{Some, None}
 use Rattle.axioms.specs.declared.kinds.Kind.{Kind}
 use Rattle.axioms.specs.declared.kinds.Sort.{Sort}
 use Rattle.axioms.specs.declared.kinds.Sort.the-variants.{Class, Property}
@@ -51,3 +54,8 @@ raw-grounds classes properties raw =
     ∷ refuse TrustOutOfRange (in-trust (raw .trust) ≡ false)
     ∷ refuse EqualNames (OfKind raw (λ k. names-apart k (raw .left) (raw .right) ≡ false))
     ∷ []
+
+-- the axioms at a list of places are well formed
+abbrev pub All-formed : ℕ → ℕ → List (Option Axiom) → Type 0
+All-formed classes properties places =
+    (k : ℕ) (a : Axiom) → getD places k None ≡ Some a → well-formed classes properties a ≡ true

@@ -1,18 +1,17 @@
 -- A workbook's slots as an open sheet.
 use mathlib.Core.Path.{_≡_, refl, sym, ap, _∙_}
-use mathlib.Core.List.{List, [], _∷_, map}
+use mathlib.Core.List.{[], _∷_, map}
 use mathlib.Core.Bool.{true, false, cond}
 use mathlib.Core.Logic.{_⊎_, inl, inr, ⊎-elim}
-use Prim.Native.Nat.{ℕ, zero, suc, _+_, _-_, _≤_, _<_}
+use Prim.Native.Nat.{ℕ, _+_, _-_, _≤_, _<_}
 use native.Mathlib.Omega.{arith}
 use lib.Dec.{ltb}
-use lib.ListN.{length, getD, set, take, replicate, length-map, length-take}
+use lib.ListN.{length, getD, set, take, length-map, length-take}
 use lib.Seq.{take-set-lt}
 use Rattle.std.proofs.shelf.Lists.{getD-map, getD-past, getD-take, map-append, map-set, take-more-set, length-take-le}
 use Rattle.std.proofs.shelf.Tests.{cases-lt, cond-below, cond-above, false≢true}
 use Rattle.std.specs.Results.{isOk}
 use Rattle.std.specs.Vec.{refused}
-use Rattle.std.specs.declared.option.Option.{Option}
 use Rattle.std.specs.declared.option.Option.the-variants.{Some, None}
 use Rattle.std.specs.declared.result.Result.{Result}
 use Rattle.std.specs.declared.result.Result.the-variants.{Ok, Err}
@@ -21,7 +20,7 @@ use Rattle.axioms.specs.declared.axiom_types.RawAxiom.{RawAxiom}
 use Rattle.axioms.specs.declared.causes.Cause.{Cause}
 use Rattle.axioms.specs.declared.causes.Cause.the-variants.{NoSuchPlace, VacantPlace, NoRoom}
 use Rattle.axioms.specs.declared.counts.Counts.{Counts}
-use Rattle.axioms.specs.Axioms.{well-formed, States, raw-grounds}
+use Rattle.axioms.specs.Axioms.{well-formed, All-formed, States, raw-grounds}
 use Rattle.axioms.specs.Ordered.{refuse, FirstFitting, NoneFits}
 use Rattle.axioms.proofs.Grounds.{first-before, first-after, none-of-both}
 use Rattle.axioms.proofs.Formed.{no-cause-for-formed}
@@ -29,31 +28,13 @@ use Rattle.sheets.specs.declared.workbook.Slots.{Slots}
 use Rattle.sheets.specs.Faults.{no-such-place}
 use Rattle.sheets.specs.Contents.{Content, Sound, answer}
 use Rattle.sheets.specs.OpenSheets.{opened, NoFaultFewPlaces, Accepted, Withdrawn, with-axiom, statement-grounds, withdrawal-grounds}
-use Rattle.sheets.specs.Slots.{most-slots, of-slot, slot-content, All-formed}
+use Rattle.sheets.specs.Slots.{most-slots, of-slot, slot-content}
 use Rattle.sheets.specs.Workbooks.{book-of}
 
 -- what holds at every refusal
 pub refused-any : {X Y : Type 0} (r : Result X Y) (P : Y → Type 0) → ((y : Y) → P y) → refused r P
 refused-any (Ok x) P h = tt
 refused-any (Err y) P h = h y
-
--- an axiom that stands in changed slots was put there, or stood there before
-pub formed-set : (c p : ℕ) (table : List (Option Axiom)) (i : ℕ) (o : Option Axiom) → ((a : Axiom) → o ≡ Some a → well-formed c p a ≡ true)
-    → All-formed c p table → All-formed c p (set table i o)
-formed-set c p [] i o ok h k a e = h k a e
-formed-set c p (x ∷ xs) zero o ok h zero a e = ok a e
-formed-set c p (x ∷ xs) zero o ok h (suc k) a e = h (suc k) a e
-formed-set c p (x ∷ xs) (suc i) o ok h zero a e = h 0 a e
-formed-set c p (x ∷ xs) (suc i) o ok h (suc k) a e = formed-set c p xs i o ok (λ j. h (suc j)) k a e
-
-none-at : (n k : ℕ) → getD (replicate {A = Option Axiom} n None) k None ≡ None
-none-at zero k = refl
-none-at (suc n) zero = refl
-none-at (suc n) (suc k) = none-at n k
-
--- vacant slots hold no axiom
-pub formed-none : (c p n : ℕ) → All-formed c p (replicate n None)
-formed-none c p n k a e = let d : None ≡ Some a = sym (none-at n k) ∙ e in let z : _≡_ {A = ℕ} 0 1 = cc in absurd (omega arith)
 
 module _ (n : Counts) (s : Slots) where
   few : s .used ≤ most-slots

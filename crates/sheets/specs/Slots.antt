@@ -1,14 +1,10 @@
 -- What a workbook's table of slots means.
-use mathlib.Core.Path.{_≡_}
 use mathlib.Core.List.{List, map}
-use mathlib.Core.Bool.{true}
 use Prim.Native.Nat.{ℕ}
-use lib.ListN.{getD, take}
+use lib.ListN.{take}
 use Rattle.std.specs.declared.option.Option.{Option}
-use Rattle.std.specs.declared.option.Option.the-variants.{Some, None}
 use Rattle.std.specs.declared.result.Result.the-variants.{Ok}
 use Rattle.axioms.specs.declared.axiom_types.Axiom.{Axiom}
-use Rattle.axioms.specs.Axioms.{well-formed}
 use Rattle.sheets.specs.Contents.{Place, Content}
 
 -- a workbook has so many slots
@@ -22,8 +18,3 @@ of-slot o = Ok o
 abbrev pub slot-content : ℕ → ℕ → List (Option Axiom) → ℕ → Content
 slot-content classes properties table used =
     record { classes = classes; properties = properties; places = map of-slot (take used table) }
-
--- the axioms in the table are well formed
-abbrev pub All-formed : ℕ → ℕ → List (Option Axiom) → Type 0
-All-formed classes properties table =
-    (k : ℕ) (a : Axiom) → getD table k None ≡ Some a → well-formed classes properties a ≡ true

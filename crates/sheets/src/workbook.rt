@@ -2,7 +2,8 @@
 ghost use mathlib.Core.Path.{_≡_};
 ghost use Prim.Native.Nat.{_≤_};
 ghost use lib.ListN.{length};
-ghost use Rattle.sheets.specs.Slots.{«most-slots», «All-formed»};
+ghost use Rattle.axioms.specs.Axioms.{«All-formed»};
+ghost use Rattle.sheets.specs.Slots.{«most-slots»};
 use axioms::Axiom;
 use axioms::Counts;
 

@@ -1,4 +1,5 @@
-//! A walk through a workbook: statements, refusals, a withdrawal, and a floor over the book.
+//! A walk through a workbook: statements, refusals, empty names, a withdrawal, and a floor over the book.
+mod empty_names;
 mod sample;
 mod shown;
 
@@ -7,6 +8,7 @@ use axioms::Counts;
 use axioms::Kind;
 use axioms::RawAxiom;
 use axioms::Trust;
+use closing::Theory;
 use sheets::Floor;
 use sheets::FloorSheet;
 use sheets::OpenSheet;
@@ -135,10 +137,14 @@ fn tour(rt: &impl Print, counts: Counts, floor: Trust) -> io::Result<()> {
         raw(Kind::Cdis, 1, 1, 50),
     )?;
     fill(rt, counts)?;
+    println!(rt, "Closing the book")?;
+    empty_names::close(rt, &book, Theory::new(counts))?;
     println!(rt, "Withdrawals")?;
     try_withdrawal(rt, &mut book, "withdrawal from place 10", 10)?;
     try_withdrawal(rt, &mut book, "withdrawal from place 4", sample::MISTAKE)?;
     try_withdrawal(rt, &mut book, "and once more", sample::MISTAKE)?;
+    println!(rt, "Closing the book again")?;
+    empty_names::close(rt, &book, Theory::new(counts))?;
     let value = floor.value;
     println!(rt, "The book, and a floor of {value} over it")?;
     compare(rt, &Floor::over(book, floor))

@@ -1,6 +1,7 @@
 use mathlib.Core.Path.{sym, subst}
-use Rattle.sheets.specs.Slots.{most-slots, All-formed}
-use Rattle.sheets.proofs.Slotting.{formed-none}
+use Rattle.axioms.specs.Axioms.{All-formed}
+use Rattle.axioms.proofs.Formed.{formed-none}
+use Rattle.sheets.specs.Slots.{most-slots}
 use Rattle.sheets.proofs.workbook.Workbook.new.Needs as need
 
 pub ghost-result : need.ghost-result

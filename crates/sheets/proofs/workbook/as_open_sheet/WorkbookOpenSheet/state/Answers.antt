@@ -4,11 +4,12 @@ use Rattle.std.specs.declared.option.Option.the-variants.{Some}
 use Rattle.std.specs.declared.result.Result.the-variants.{Err}
 use Rattle.std.proofs.shelf.Results.{err-from-errBy}
 use Rattle.std.proofs.shelf.Tests.{leb-true, leb-false}
-use Rattle.axioms.specs.Axioms.{well-formed}
+use Rattle.axioms.specs.Axioms.{well-formed, All-formed}
+use Rattle.axioms.proofs.Formed.{formed-set}
 use Rattle.sheets.specs.OpenSheets.{Statement}
-use Rattle.sheets.specs.Slots.{most-slots, All-formed}
+use Rattle.sheets.specs.Slots.{most-slots}
 use Rattle.sheets.specs.Workbooks.{book}
-use Rattle.sheets.proofs.Slotting.{formed-set, slots-faultless, refused-any, refused-first, refused-full, accepted}
+use Rattle.sheets.proofs.Slotting.{slots-faultless, refused-any, refused-first, refused-full, accepted}
 use Rattle.sheets.proofs.workbook.as_open_sheet.WorkbookOpenSheet.state.Needs as need
 
 pub returns-in-Break-stated : need.returns-in-Break-stated

@@ -4,10 +4,11 @@ use Prim.Native.Nat.{ℕ}
 use Rattle.std.specs.declared.option.Option.the-variants.{None}
 use Rattle.std.specs.declared.result.Result.the-variants.{Err}
 use Rattle.std.proofs.shelf.Results.{err-from-errBy}
+use Rattle.axioms.specs.Axioms.{All-formed}
+use Rattle.axioms.proofs.Formed.{formed-set}
 use Rattle.sheets.specs.OpenSheets.{Withdrawal}
-use Rattle.sheets.specs.Slots.{All-formed}
 use Rattle.sheets.specs.Workbooks.{book}
-use Rattle.sheets.proofs.Slotting.{formed-set, slots-faultless, refused-any, refused-place, withdrawn}
+use Rattle.sheets.proofs.Slotting.{slots-faultless, refused-any, refused-place, withdrawn}
 use Rattle.sheets.proofs.workbook.as_open_sheet.WorkbookOpenSheet.withdraw.Needs as need
 
 pub returns-in-Break-withdrawn : need.returns-in-Break-withdrawn

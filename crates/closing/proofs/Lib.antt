@@ -1,0 +1,15 @@
+mod Soundness
+mod Ranged
+mod Csub
+mod Psub
+mod Ends
+mod Cdis
+mod Pdis
+mod Complete
+mod Derived
+mod Beyond
+mod Checked
+mod Stating
+mod Putting
+mod Making
+mod Telling

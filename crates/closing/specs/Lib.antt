@@ -1,0 +1,11 @@
+pub mod Meaning
+pub mod Rules
+pub mod Places
+pub mod Theories
+pub mod Reading
+pub mod Numbers
+pub mod Stages
+pub mod Examples
+pub mod Cases
+pub mod Tests
+pub mod Exactness

@@ -1,0 +1,5 @@
+pub mod Relations
+pub mod Signed
+pub mod Least
+pub mod Sets
+pub mod Tables
