@@ -1,4 +1,6 @@
 //! Axioms between named classes and properties, and the causes for which a call is refused.
+#![tactic(auto)]
+
 mod axiom_check;
 mod axiom_types;
 mod causes;

@@ -1,4 +1,6 @@
 //! The closing: which relations can be derived from axioms, and which names are empty under them.
+#![tactic(auto)]
+
 mod cases;
 mod names;
 mod relations;

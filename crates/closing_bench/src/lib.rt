@@ -1,4 +1,6 @@
 //! The closing behind functions of the C calling convention, for a benchmark to call.
+#![tactic(auto)]
+
 use axioms::{Axiom, Cause, Counts, Kind, RawAxiom, check};
 use closing::{Stage1, Stage2, Stage3, Stage4, Stage5, Theory};
 

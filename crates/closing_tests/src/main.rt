@@ -1,4 +1,6 @@
 //! Closes vocabularies with known empty names, and reports the names that it finds empty.
+#![tactic(auto)]
+
 mod listing;
 
 use closing::{Name, PLACES, Stage1, Stage2, Stage3, Stage4, Stage5, Theory};

@@ -1,4 +1,6 @@
 //! Sheets of axioms: what a sheet is, the workbook, and the floor layer.
+#![tactic(auto)]
+
 mod faults;
 mod floor;
 mod layers;

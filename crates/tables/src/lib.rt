@@ -1,4 +1,6 @@
 //! Tables of relations between names below 64: closing them, and their products.
+#![tactic(auto)]
+
 mod chains;
 mod name_set;
 mod products;

@@ -1,4 +1,6 @@
 //! A walk through a workbook: statements, refusals, empty names, a withdrawal, and a floor over the book.
+#![tactic(auto)]
+
 mod empty_names;
 mod sample;
 mod shown;
