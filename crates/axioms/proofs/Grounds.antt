@@ -1,5 +1,5 @@
 -- Laws of refusals in order, offered to the crates above.
-use Rattle.std.proofs.Common.{◌≡◌, ◌⊎◌, List, [], ◌∷◌, ◌++◌, sym, ◌∙◌, inl, inr, ⊎_elim}
+use Rattle.std.proofs.Common.{◌≡◌, List, [], ◌∷◌, ◌++◌, sym, ◌∙◌, inl, inr, ⊎_elim}
 use Rattle.axioms.specs.Ordered.{Ground, refuse, FirstFitting, NoneFits}
 
 module _ {R : Type 0} where

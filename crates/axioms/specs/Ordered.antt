@@ -11,13 +11,13 @@ refuse e P r = P × (r ≡ e)
 
 -- the ground does not fit
 abbrev pub Fails : {R : Type 0} → Ground R → Type 0
-Fails {R} ground = (r : R) → ground r → ⊥
+Fails {R} g = (r : R) → g r → ⊥
 
 -- r is the answer of the first ground that fits
 abbrev pub FirstFitting : {R : Type 0} → List (Ground R) → R → Type 0
 FirstFitting [] r = ⊥
-FirstFitting (ground ∷ grounds) r = ground r ⊎ (Fails ground × FirstFitting grounds r)
+FirstFitting (g ∷ gs) r = g r ⊎ (Fails g × FirstFitting gs r)
 
 abbrev pub NoneFits : {R : Type 0} → List (Ground R) → Type 0
 NoneFits [] = Unit {0}
-NoneFits (ground ∷ grounds) = Fails ground × NoneFits grounds
+NoneFits (g ∷ gs) = Fails g × NoneFits gs

@@ -12,5 +12,5 @@ returns c =
     let R = cell c.args.csub.now in
     subst (λ n. Agree n n (cell c.times.result) (cdis_by (axioms_of t) n (property_count t) R)) c.span-classes.ensures
     (cdis_made (axioms_of t) c.span-classes.result.names (property_count t) c.span-classes.result.few t.counts.few_properties
-    R (cell c.stated-either-way-stated.result) (cell c.times-half.result) (cell c.turned.result) (cell c.times.result)
-    c.stated-either-way-stated.ensures c.times-half.ensures.is_the_product c.turned.ensures.each_the_other_way c.times.ensures.is_the_product)
+    R (cell c.stated_either_way-stated.result) (cell c.times-half.result) (cell c.turned.result) (cell c.times.result)
+    c.stated_either_way-stated.ensures c.times-half.ensures.is_the_product c.turned.ensures.each_the_other_way c.times.ensures.is_the_product)

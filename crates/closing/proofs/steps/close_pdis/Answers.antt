@@ -14,6 +14,6 @@ returns c =
     let C = cells c.times.result in
     carry (λ n m. AgreeBoth m m C (pdis_by (axioms_of t) n m E D A)) c.span-classes.ensures c.span-properties.ensures
     (pdis_made (axioms_of t) c.span-classes.result.names c.span-properties.result.names c.span-classes.result.few c.span-properties.result.few
-    E D A (cell c.stated-either-way-along.result) (cell c.mark_clashes.new.self) (cells (record { along = c.mark-clashes-2.new.self; against = c.stated-either-way-against.result })) (cells c.times-half.result) (cells c.turned.result) C
-    c.stated-either-way-along.ensures c.mark_clashes.ensures.each_that_clashes c.mark-clashes-2.ensures.each_that_clashes c.stated-either-way-against.ensures
+    E D A (cell c.stated_either_way-along.result) (cell c.mark_clashes.new.self) (cells (record { along = c.mark_clashes-2.new.self; against = c.stated_either_way-against.result })) (cells c.times-half.result) (cells c.turned.result) C
+    c.stated_either_way-along.ensures c.mark_clashes.ensures.each_that_clashes c.mark_clashes-2.ensures.each_that_clashes c.stated_either_way-against.ensures
     c.times-half.ensures.is_the_product c.turned.ensures.each_the_other_way c.times.ensures.is_the_product)

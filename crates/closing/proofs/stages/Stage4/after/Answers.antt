@@ -6,8 +6,8 @@ use Rattle.closing.specs.Theories.{class_count, property_count, axioms_of}
 use Rattle.closing.proofs.Making.{cdis_like}
 use Rattle.closing.proofs.stages.Stage4.after.Goals as goal
 
-pub invariant-of-result : goal.invariant-of-result
-invariant-of-result c =
+pub invariant_of-result : goal.invariant_of-result
+invariant_of-result c =
     let t = c.args.before.theory.now in
     let r = c.args.before.relations in
     let n = class_count t in
@@ -17,7 +17,7 @@ invariant-of-result c =
         csub = λ h. x.csub (omega arith);
         psub = λ h. x.psub (omega arith);
         ends = λ h. x.ends (omega arith);
-        cdis = λ h i j hi hj. c.close-cdis-relations.ensures i j hi hj ∙ cdis_like ax n m (cell r.csub) (csub_of ax n m) (x.csub (omega arith)) i j hi hj;
+        cdis = λ h i j hi hj. c.close_cdis-relations.ensures i j hi hj ∙ cdis_like ax n m (cell r.csub) (csub_of ax n m) (x.csub (omega arith)) i j hi hj;
         pdis = λ h. absurd (omega arith);
       } ∣₁),
       tt,

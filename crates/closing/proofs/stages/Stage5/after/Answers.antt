@@ -6,8 +6,8 @@ use Rattle.closing.specs.Theories.{class_count, property_count, axioms_of}
 use Rattle.closing.proofs.Making.{pdis_like}
 use Rattle.closing.proofs.stages.Stage5.after.Goals as goal
 
-pub invariant-of-result : goal.invariant-of-result
-invariant-of-result c =
+pub invariant_of-result : goal.invariant_of-result
+invariant_of-result c =
     let t = c.args.before.theory.now in
     let r = c.args.before.relations in
     let n = class_count t in
@@ -18,7 +18,7 @@ invariant-of-result c =
         psub = λ h. x.psub (omega arith);
         ends = λ h. x.ends (omega arith);
         cdis = λ h. x.cdis (omega arith);
-        pdis = λ h s i j hi hj. c.close-pdis-relations.ensures s i j hi hj
+        pdis = λ h s i j hi hj. c.close_pdis-relations.ensures s i j hi hj
             ∙ pdis_like ax n m (cells r.psub) (psub_of ax n m) (cells r.ends) (ends_of ax n m) (cell r.cdis) (cdis_of ax n m) (x.psub (omega arith)) (x.ends (omega arith)) (x.cdis (omega arith)) s i j hi hj;
       } ∣₁),
       tt,

@@ -23,8 +23,8 @@ returns c =
     let classes : c.count_diagonal.result ≡ count n (λ a. found ax n m (Class a)) =
     subst (λ k. c.count_diagonal.result ≡ count k (λ a. cell s.relations.cdis a a)) c.span-classes.ensures c.count_diagonal.ensures.counts_them
     ∙ ∥∥₁_elim s.exact (ℕ_set _ _) (λ x. count_like n (λ a. cell s.relations.cdis a a) (λ a. found ax n m (Class a)) (λ a h. exact_at 5 t s.relations x Cdis (omega arith) a a h h)) in
-    let properties : c.count-diagonal-2.result ≡ count m (λ p. found ax n m (Property p)) =
-    subst (λ k. c.count-diagonal-2.result ≡ count k (λ p. cell s.relations.pdis.along p p)) c.span-properties.ensures c.count-diagonal-2.ensures.counts_them
+    let properties : c.count_diagonal-2.result ≡ count m (λ p. found ax n m (Property p)) =
+    subst (λ k. c.count_diagonal-2.result ≡ count k (λ p. cell s.relations.pdis.along p p)) c.span-properties.ensures c.count_diagonal-2.ensures.counts_them
     ∙ ∥∥₁_elim s.exact (ℕ_set _ _) (λ x. count_like m (λ p. cell s.relations.pdis.along p p) (λ p. found ax n m (Property p)) (λ p h. exact_at 5 t s.relations x Pdis (omega arith) p p h h)) in
     record {
       counts_the_empty_names = record {

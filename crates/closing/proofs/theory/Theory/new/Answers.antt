@@ -3,5 +3,5 @@ use Rattle.axioms.proofs.Formed.{formed_none}
 use Rattle.closing.specs.Places.{most_places}
 use Rattle.closing.proofs.theory.Theory.new.Goals as goal
 
-pub invariant-of-result : goal.invariant-of-result
-invariant-of-result c = (refl, (formed_none c.args.counts.classes c.args.counts.properties most_places, tt))
+pub invariant_of-result : goal.invariant_of-result
+invariant_of-result c = (refl, (formed_none c.args.counts.classes c.args.counts.properties most_places, tt))

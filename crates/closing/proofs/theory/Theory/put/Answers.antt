@@ -3,10 +3,10 @@ use Rattle.axioms.proofs.Formed.{formed_set}
 use Rattle.closing.proofs.Putting.{put_none}
 use Rattle.closing.proofs.theory.Theory.put.Goals as goal
 
-pub invariant-of-self : goal.invariant-of-self
-invariant-of-self c =
+pub invariant_of-self : goal.invariant_of-self
+invariant_of-self c =
     let t = c.args.self.now in
-    let h = c.in-ok-check-found.ensures in (
+    let h = c.in_ok-check_found.ensures in (
       length-set t.places c.args.place c.args.found ∙ t.all_places,
       (formed_set t.counts.classes t.counts.properties t.places c.args.place c.args.found h.1 t.formed, tt),
     )
@@ -16,7 +16,7 @@ returns c =
     let t = c.args.self.now in
     record {
       filled_or_first_cause = record {
-        no_cause = put_none t.counts.classes t.counts.properties c.args.place c.args.found c.if-place-ge-PLACES.false c.in-ok-check-found.ensures.0;
+        no_cause = put_none t.counts.classes t.counts.properties c.args.place c.args.found c.if-place-ge-PLACES.false c.in_ok-check_found.ensures.0;
         same_classes = refl;
         same_properties = refl;
         only_there = refl;

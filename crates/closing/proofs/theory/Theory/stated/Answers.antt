@@ -5,7 +5,7 @@ use Rattle.closing.specs.Places.{held}
 use Rattle.closing.specs.Tests.{is_stated}
 use Rattle.closing.proofs.Stating.{more_vacant, more_other, more_such}
 use Rattle.closing.proofs.theory.Theory.stated.Goals as goal
-use Rattle.closing.proofs.theory.Theory.stated.Goals.{in-Some+then-eq, in-Some+else-eq, in-default}
+use Rattle.closing.proofs.theory.Theory.stated.Goals.{in-Some+then-eq, in-Some+else-eq, in_default}
 
 pub loop-place-preserved : goal.loop-place-preserved
 loop-place-preserved c i j hi hj =
@@ -20,7 +20,7 @@ loop-place-preserved c i j hi hj =
           ap (λ u. cell u i j) w.table-is ∙ w.mark.ensures.one_pair_more i j hi hj ∙ ap (λ b. b || (eqb i stated.left && eqb j stated.right)) before
           ∙ sym (more_such t.places place within k i j stated w.in-Some.is w.if-eq.ensures)
       | in-Some+else-eq w ↦ ap (λ u. cell u i j) w.table-is ∙ before ∙ sym (more_other t.places place within k i j w.in-Some.stated w.in-Some.is w.if-eq.ensures)
-      | in-default w ↦ ap (λ u. cell u i j) w.table-is ∙ before ∙ sym (more_vacant t.places place within k i j w.in-default.is)
+      | in_default w ↦ ap (λ u. cell u i j) w.table-is ∙ before ∙ sym (more_vacant t.places place within k i j w.in_default.is)
     ]
 
 pub returns : goal.returns

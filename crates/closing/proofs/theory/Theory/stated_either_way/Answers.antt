@@ -5,7 +5,7 @@ use Rattle.closing.specs.Places.{held}
 use Rattle.closing.specs.Tests.{is_stated, either_way}
 use Rattle.closing.proofs.Stating.{more_vacant, more_other, more_such, both_ways_more}
 use Rattle.closing.proofs.theory.Theory.stated_either_way.Goals as goal
-use Rattle.closing.proofs.theory.Theory.stated_either_way.Goals.{in-Some+then-eq, in-Some+else-eq, in-default}
+use Rattle.closing.proofs.theory.Theory.stated_either_way.Goals.{in-Some+then-eq, in-Some+else-eq, in_default}
 
 pub loop-place-preserved : goal.loop-place-preserved
 loop-place-preserved c i j hi hj =
@@ -25,8 +25,8 @@ loop-place-preserved c i j hi hj =
       | in-Some+else-eq w ↦
           let other : (l r : ℕ) → is_stated (held (take (place + 1) t.places)) k l r ≡ is_stated (held (take place t.places)) k l r = λ l r. more_other t.places place within k l r w.in-Some.stated w.in-Some.is w.if-eq.ensures in
           ap (λ u. cell u i j) w.table-is ∙ before ∙ sym (ap₂ (λ x y. x || y) (other i j) (other j i))
-      | in-default w ↦
-          let vacant : (l r : ℕ) → is_stated (held (take (place + 1) t.places)) k l r ≡ is_stated (held (take place t.places)) k l r = λ l r. more_vacant t.places place within k l r w.in-default.is in
+      | in_default w ↦
+          let vacant : (l r : ℕ) → is_stated (held (take (place + 1) t.places)) k l r ≡ is_stated (held (take place t.places)) k l r = λ l r. more_vacant t.places place within k l r w.in_default.is in
           ap (λ u. cell u i j) w.table-is ∙ before ∙ sym (ap₂ (λ x y. x || y) (vacant i j) (vacant j i))
     ]
 

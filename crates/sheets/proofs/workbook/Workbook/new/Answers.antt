@@ -4,7 +4,7 @@ use Rattle.axioms.proofs.Formed.{formed_none}
 use Rattle.sheets.specs.Slots.{most_slots}
 use Rattle.sheets.proofs.workbook.Workbook.new.Goals as goal
 
-pub invariant-of-result : goal.invariant-of-result
-invariant-of-result c =
+pub invariant_of-result : goal.invariant_of-result
+invariant_of-result c =
     let n = c.args.counts in
     (subst (AllFormed n.classes n.properties) (sym c.new.ensures.all_vacant) (formed_none n.classes n.properties most_slots), tt)

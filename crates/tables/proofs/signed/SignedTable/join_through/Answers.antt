@@ -16,10 +16,10 @@ loop-left-preserved c =
     let T = cells c.args.self.now in
     let R = cells c.join_row.new.self in
     let C = cells c.loop-left.self in
-    let C' = cells c.join-row-in-loop-left.new.self in (
+    let C' = cells c.join_row-in-loop-left.new.self in (
       λ wide. done_more reversing n 64 wide a k c.loop-left-test.true c.requires R C C'
-          (signed_stable n 64 wide k c.requires T R (λ s i j hi hj. c.join_row.ensures s i j (omega arith) hj)) (c.loop-left.invariant.0 wide) (λ s i j hi hj. c.join-row-in-loop-left.ensures s i j (omega arith) hj),
-      λ s i j past hi hj. row_stays (C s i j) _ (C' s i j) i a (λ e. omega (arith, c.loop-left-test.true)) (c.join-row-in-loop-left.ensures s i j hi hj) ∙ c.loop-left.invariant.1 s i j past hi hj,
+          (signed_stable n 64 wide k c.requires T R (λ s i j hi hj. c.join_row.ensures s i j (omega arith) hj)) (c.loop-left.invariant.0 wide) (λ s i j hi hj. c.join_row-in-loop-left.ensures s i j (omega arith) hj),
+      λ s i j past hi hj. row_stays (C s i j) _ (C' s i j) i a (λ e. omega (arith, c.loop-left-test.true)) (c.join_row-in-loop-left.ensures s i j hi hj) ∙ c.loop-left.invariant.1 s i j past hi hj,
     )
 
 pub returns : goal.returns

@@ -15,12 +15,12 @@ loop-left-init c =
       e,
     )
 
-pub without-first-rest-requires : goal.without-first-rest-requires
-without-first-rest-requires c = omega (arith, c.loop-left.invariant.2, c.loop-left-test.true)
+pub without_first-rest-requires : goal.without_first-rest-requires
+without_first-rest-requires c = omega (arith, c.loop-left.invariant.2, c.loop-left-test.true)
 
 pub loop-left-smaller : goal.loop-left-smaller
 loop-left-smaller c =
-    let up = rises (has c.args.lefts) c.loop-left.left c.loop-left.rest c.without-first-rest.result c.loop-left.invariant.1 c.loop-left.invariant.2 c.loop-left-test.true c.without-first-rest.ensures in
+    let up = rises (has c.args.lefts) c.loop-left.left c.loop-left.rest c.without_first-rest.result c.loop-left.invariant.1 c.loop-left.invariant.2 c.loop-left-test.true c.without_first-rest.ensures in
     omega (arith, up, c.first-left-in-loop-left.ensures)
 
 pub loop-left-preserved : goal.loop-left-preserved
@@ -28,15 +28,15 @@ loop-left-preserved c =
     let H : ℕ → Bool = has c.args.lefts in
     let a = c.loop-left.left in
     let s = c.loop-left.rest in
-    let t = c.without-first-rest.result in
+    let t = c.without_first-rest.result in
     let inv = c.loop-left.invariant in
     let few = c.loop-left-test.true in
     let e = c.first-left-in-loop-left.ensures in (
       λ i j hi hj. c.mark.ensures.one_pair_more i j hi hj
           ∙ ap (λ x. x || (eqb i a && eqb j c.args.name)) (inv.0 i j hi hj)
           ∙ column_more (cell c.args.self.now i j) _ (eqb i a) (eqb j c.args.name)
-          ∙ sym (rw e (rw (passed H a s t inv.1 inv.2 few c.without-first-rest.ensures i))),
-      λ k. subst (λ b. has t k ≡ (leb b k && H k)) (sym e) (left_after H a s t inv.1 inv.2 few c.without-first-rest.ensures k),
+          ∙ sym (rw e (rw (passed H a s t inv.1 inv.2 few c.without_first-rest.ensures i))),
+      λ k. subst (λ b. has t k ≡ (leb b k && H k)) (sym e) (left_after H a s t inv.1 inv.2 few c.without_first-rest.ensures k),
       e,
     )
 

@@ -16,13 +16,13 @@ loop-name-init c =
       e,
     )
 
-pub without-first-left-requires : goal.without-first-left-requires
-without-first-left-requires c = omega (arith, c.loop-name.invariant.2, c.args.n.few, c.loop-name-test.true)
+pub without_first-left-requires : goal.without_first-left-requires
+without_first-left-requires c = omega (arith, c.loop-name.invariant.2, c.args.n.few, c.loop-name-test.true)
 
 pub loop-name-smaller : goal.loop-name-smaller
 loop-name-smaller c =
     let few : c.loop-name.name < 64 = omega (arith, c.args.n.few, c.loop-name-test.true) in
-    let up = rises (has c.args.names) c.loop-name.name c.loop-name.left c.without-first-left.result c.loop-name.invariant.1 c.loop-name.invariant.2 few c.without-first-left.ensures in
+    let up = rises (has c.args.names) c.loop-name.name c.loop-name.left c.without_first-left.result c.loop-name.invariant.1 c.loop-name.invariant.2 few c.without_first-left.ensures in
     omega (arith, up, c.first-name-in-loop-name.ensures)
 
 pub loop-name-preserved : goal.loop-name-preserved
@@ -30,13 +30,13 @@ loop-name-preserved c =
     let n = c.args.n.names in
     let H : ℕ → Bool = has c.args.names in
     let a = c.loop-name.name in
-    let t = c.without-first-left.result in
+    let t = c.without_first-left.result in
     let few : a < 64 = omega (arith, c.args.n.few, c.loop-name-test.true) in
     let inv = c.loop-name.invariant in
     let e = c.first-name-in-loop-name.ensures in (
       λ j. subst (λ b. has c.union-all.result j ≡ some n (λ k. (ltb k b && H k) && cell c.args.self.now k j)) (sym e)
-          (gathered_more H a c.loop-name.left t inv.1 inv.2 few c.without-first-left.ensures n c.loop-name-test.true (λ k. cell c.args.self.now k j) _ _ _ (c.row.ensures j) (inv.0 j) (c.union-all.ensures j)),
-      λ k. subst (λ b. has t k ≡ (leb b k && H k)) (sym e) (left_after H a c.loop-name.left t inv.1 inv.2 few c.without-first-left.ensures k),
+          (gathered_more H a c.loop-name.left t inv.1 inv.2 few c.without_first-left.ensures n c.loop-name-test.true (λ k. cell c.args.self.now k j) _ _ _ (c.row.ensures j) (inv.0 j) (c.union-all.ensures j)),
+      λ k. subst (λ b. has t k ≡ (leb b k && H k)) (sym e) (left_after H a c.loop-name.left t inv.1 inv.2 few c.without_first-left.ensures k),
       e,
     )
 
