@@ -9,4 +9,4 @@ returns-then-place-places g c =
 
 pub returns : goal.returns
 returns g c =
-    record { answers_the_list_handed_up = c.deeper_fault.ensures ∙ ap one_up c.at.ensures.answers_the_list ∙ sym (each_within one_up (g.S.Sheet.content c.args.below.now) c.args.place (omega arith)) }
+    record { answers_the_list_handed_up = c.one_deeper.ensures ∙ ap one_up c.at.ensures.answers_the_list ∙ sym (each_within one_up (g.S.Sheet.content c.args.below.now) c.args.place (omega arith)) }

@@ -12,14 +12,13 @@ invariant_of-result c =
     let r = c.args.before.relations in
     let n = class_count t in
     let m = property_count t in
-    let ax = axioms_of t in (
-      ∥∥₁_elim c.args.before.exact ∥∥₁_prop (λ x. ∣ record {
+    let ax = axioms_of t in record {
+      exact = ∥∥₁_elim c.args.before.exact ∥∥₁_prop (λ x. ∣ record {
         csub = λ h. x.csub (omega arith);
         psub = λ h. x.psub (omega arith);
         ends = λ h s i j hi hj. c.close_ends-relations.ensures s i j hi hj
             ∙ ends_like ax n m (cell r.csub) (csub_of ax n m) (cells r.psub) (psub_of ax n m) (x.csub (omega arith)) (x.psub (omega arith)) s i j hi hj;
         cdis = λ h. absurd (omega arith);
         pdis = λ h. absurd (omega arith);
-      } ∣₁),
-      tt,
-    )
+      } ∣₁);
+    }

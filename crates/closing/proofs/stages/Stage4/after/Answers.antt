@@ -12,13 +12,12 @@ invariant_of-result c =
     let r = c.args.before.relations in
     let n = class_count t in
     let m = property_count t in
-    let ax = axioms_of t in (
-      ∥∥₁_elim c.args.before.exact ∥∥₁_prop (λ x. ∣ record {
+    let ax = axioms_of t in record {
+      exact = ∥∥₁_elim c.args.before.exact ∥∥₁_prop (λ x. ∣ record {
         csub = λ h. x.csub (omega arith);
         psub = λ h. x.psub (omega arith);
         ends = λ h. x.ends (omega arith);
         cdis = λ h i j hi hj. c.close_cdis-relations.ensures i j hi hj ∙ cdis_like ax n m (cell r.csub) (csub_of ax n m) (x.csub (omega arith)) i j hi hj;
         pdis = λ h. absurd (omega arith);
-      } ∣₁),
-      tt,
-    )
+      } ∣₁);
+    }

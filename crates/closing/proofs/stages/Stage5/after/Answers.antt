@@ -12,14 +12,13 @@ invariant_of-result c =
     let r = c.args.before.relations in
     let n = class_count t in
     let m = property_count t in
-    let ax = axioms_of t in (
-      ∥∥₁_elim c.args.before.exact ∥∥₁_prop (λ x. ∣ record {
+    let ax = axioms_of t in record {
+      exact = ∥∥₁_elim c.args.before.exact ∥∥₁_prop (λ x. ∣ record {
         csub = λ h. x.csub (omega arith);
         psub = λ h. x.psub (omega arith);
         ends = λ h. x.ends (omega arith);
         cdis = λ h. x.cdis (omega arith);
         pdis = λ h s i j hi hj. c.close_pdis-relations.ensures s i j hi hj
             ∙ pdis_like ax n m (cells r.psub) (psub_of ax n m) (cells r.ends) (ends_of ax n m) (cell r.cdis) (cdis_of ax n m) (x.psub (omega arith)) (x.ends (omega arith)) (x.cdis (omega arith)) s i j hi hj;
-      } ∣₁),
-      tt,
-    )
+      } ∣₁);
+    }

@@ -4,4 +4,4 @@ use Rattle.closing.specs.Places.{most_places}
 use Rattle.closing.proofs.theory.Theory.new.Goals as goal
 
 pub invariant_of-result : goal.invariant_of-result
-invariant_of-result c = (refl, (formed_none c.args.counts.classes c.args.counts.properties most_places, tt))
+invariant_of-result c = record { all_places = refl; formed = formed_none c.args.counts.classes c.args.counts.properties most_places }

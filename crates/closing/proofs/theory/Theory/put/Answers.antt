@@ -6,10 +6,10 @@ use Rattle.closing.proofs.theory.Theory.put.Goals as goal
 pub invariant_of-self : goal.invariant_of-self
 invariant_of-self c =
     let t = c.args.self.now in
-    let h = c.in_ok-check_found.ensures in (
-      length-set t.places c.args.place c.args.found ∙ t.all_places,
-      (formed_set t.counts.classes t.counts.properties t.places c.args.place c.args.found h.1 t.formed, tt),
-    )
+    let h = c.in_ok-check_found.ensures in record {
+      all_places = length-set t.places c.args.place c.args.found ∙ t.all_places;
+      formed = formed_set t.counts.classes t.counts.properties t.places c.args.place c.args.found h.1 t.formed;
+    }
 
 pub returns : goal.returns
 returns c =

@@ -1,9 +1,11 @@
-use Rattle.std.proofs.Common.{◌<◌, ◌≤◌, ◌&&◌, ◌||◌, eqb, length, sym, ap, ◌∙◌, arith}
+use Rattle.std.proofs.Common.{◌<◌, ◌≤◌, ◌&&◌, ◌||◌, eqb, length, sym, ap, ◌∙◌, arith, rules}
 use Rattle.std.proofs.lemmas.List.{take_all}
 use Rattle.tables.specs.Tables.{cell}
 use Rattle.closing.specs.Places.{held}
 use Rattle.closing.specs.Tests.{is_stated}
 use Rattle.closing.proofs.Stating.{more_vacant, more_other, more_such}
+use denote.Enum.Bare.{same_true, same_false}
+use Rattle.axioms.specs.contracts.kinds.Kind.{the_type}
 use Rattle.closing.proofs.theory.Theory.stated.Goals as goal
 use Rattle.closing.proofs.theory.Theory.stated.Goals.{in-Some+then-eq, in-Some+else-eq, in_default}
 
@@ -18,8 +20,8 @@ loop-place-preserved c i j hi hj =
       | in-Some+then-eq w ↦
           let stated = w.in-Some.stated in
           ap (λ u. cell u i j) w.table-is ∙ w.mark.ensures.one_pair_more i j hi hj ∙ ap (λ b. b || (eqb i stated.left && eqb j stated.right)) before
-          ∙ sym (more_such t.places place within k i j stated w.in-Some.is w.if-eq.ensures)
-      | in-Some+else-eq w ↦ ap (λ u. cell u i j) w.table-is ∙ before ∙ sym (more_other t.places place within k i j w.in-Some.stated w.in-Some.is w.if-eq.ensures)
+          ∙ sym (more_such t.places place within k i j stated w.in-Some.is (same_true the_type (search rules) _ _ (sym w.if-eq.ensures)))
+      | in-Some+else-eq w ↦ ap (λ u. cell u i j) w.table-is ∙ before ∙ sym (more_other t.places place within k i j w.in-Some.stated w.in-Some.is (same_false the_type _ _ (sym w.if-eq.ensures)))
       | in_default w ↦ ap (λ u. cell u i j) w.table-is ∙ before ∙ sym (more_vacant t.places place within k i j w.in_default.is)
     ]
 

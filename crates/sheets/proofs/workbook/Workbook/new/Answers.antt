@@ -7,4 +7,4 @@ use Rattle.sheets.proofs.workbook.Workbook.new.Goals as goal
 pub invariant_of-result : goal.invariant_of-result
 invariant_of-result c =
     let n = c.args.counts in
-    (subst (AllFormed n.classes n.properties) (sym c.new.ensures.all_vacant) (formed_none n.classes n.properties most_slots), tt)
+    record { formed = subst (AllFormed n.classes n.properties) (sym c.new.ensures.all_vacant) (formed_none n.classes n.properties most_slots) }

@@ -35,11 +35,10 @@ returns-then-is_full c =
 pub invariant_of-self : goal.invariant_of-self
 invariant_of-self c =
     let w = c.args.self.now in
-    let h = (c.check.ensures.axiom_exactly_when_well_formed _).0 c.in_ok-stated.was in (
-      subst (AllFormed w.counts.classes w.counts.properties) (sym c.add.ensures.holds_it)
-          (formed_set w.counts.classes w.counts.properties w.slots.table w.slots.used (Some c.in_ok-stated.stated) (λ a e. let is : c.in_ok-stated.stated ≡ a = cc in subst (λ x. well_formed w.counts.classes w.counts.properties x ≡ true) is h.1) w.formed),
-      tt,
-    )
+    let h = (c.check.ensures.axiom_exactly_when_well_formed _).0 c.in_ok-stated.was in record {
+      formed = subst (AllFormed w.counts.classes w.counts.properties) (sym c.add.ensures.holds_it)
+          (formed_set w.counts.classes w.counts.properties w.slots.table w.slots.used (Some c.in_ok-stated.stated) (λ a e. let is : c.in_ok-stated.stated ≡ a = cc in subst (λ x. well_formed w.counts.classes w.counts.properties x ≡ true) is h.1) w.formed);
+    }
 
 pub returns : goal.returns
 returns c =

@@ -21,11 +21,10 @@ returns-in_err-withdrawn c =
 
 pub invariant_of-self : goal.invariant_of-self
 invariant_of-self c =
-    let w = c.args.self.now in (
-      subst (AllFormed w.counts.classes w.counts.properties) (sym c.clear.ensures.holds_nothing)
-          (formed_set w.counts.classes w.counts.properties w.slots.table c.args.place None (λ a e. let z : ◌≡◌ {A = ℕ} 0 1 = cc in absurd (omega arith)) w.formed),
-      tt,
-    )
+    let w = c.args.self.now in record {
+      formed = subst (AllFormed w.counts.classes w.counts.properties) (sym c.clear.ensures.holds_nothing)
+          (formed_set w.counts.classes w.counts.properties w.slots.table c.args.place None (λ a e. let z : ◌≡◌ {A = ℕ} 0 1 = cc in absurd (omega arith)) w.formed);
+    }
 
 pub returns : goal.returns
 returns c =
