@@ -1,6 +1,6 @@
 -- Each case is right, by the tests of the five stages, which antt runs.
 use Rattle.std.proofs.Common.{◌≡◌, Bool, true, false, not, ◌&&◌, List, [], ◌∷◌, MatchBool, sym, refl, inl, inr}
-use Rattle.std.specs.List.{AllByRecursion as All}
+use Rattle.std.specs.List.{AllByRecursion}
 use Rattle.std.proofs.lemmas.Bool.{and_parts, not-true, both_ways}
 use Rattle.std.proofs.lemmas.Bool.Decides.{Decides-at}
 use Rattle.tables.specs.Relations.{closed, some}
@@ -50,25 +50,25 @@ module _ (axioms : List Axiom) where
     said_right true n e = (found_decides axioms 3 3 all n).0 (sym e)
     said_right false n e = λ d. both_ways (found axioms 3 3 n) (sym e) ((found_decides axioms 3 3 all n).1 d)
 
-    found_right : (empty ns : List Name) → names_check empty ns ≡ true → All (λ n. MatchBool (among n empty) (Found axioms n) (Found axioms n → ⊥)) ns
+    found_right : (empty ns : List Name) → names_check empty ns ≡ true → AllByRecursion (λ n. MatchBool (among n empty) (Found axioms n) (Found axioms n → ⊥)) ns
     found_right empty [] h = tt
     found_right empty (n ∷ ns) h =
         let parts = and_parts (agree (among n empty) (found axioms 3 3 n)) (names_check empty ns) h in
         (said_right (among n empty) n (agree_same _ _ parts.0), found_right empty ns parts.1)
 
-    meaning_right : (empty ns : List Name) → names_check empty ns ≡ true → All (λ n. MatchBool (among n empty) (Empty axioms n) (Inhabited axioms n)) ns
+    meaning_right : (empty ns : List Name) → names_check empty ns ≡ true → AllByRecursion (λ n. MatchBool (among n empty) (Empty axioms n) (Inhabited axioms n)) ns
     meaning_right empty [] h = tt
     meaning_right empty (n ∷ ns) h =
         let parts = and_parts (agree (among n empty) (found axioms 3 3 n)) (names_check empty ns) h in
         (told axioms 3 3 all n (among n empty) (Decides-at _ _ (agree_same _ _ parts.0) (found_decides axioms 3 3 all n)), meaning_right empty ns parts.1)
 
-    can_right : (ss : List Relation) → can_check ss ≡ true → All (CanDerive axioms) ss
+    can_right : (ss : List Relation) → can_check ss ≡ true → AllByRecursion (CanDerive axioms) ss
     can_right [] h = tt
     can_right (s ∷ ss) h =
         let parts = and_parts (derived axioms 3 3 s.kind s.left s.right) (can_check ss) h in
         ((decides axioms 3 3 all s.kind s.left s.right).0 parts.0, can_right ss parts.1)
 
-    cannot_right : (ss : List Relation) → cannot_check ss ≡ true → All (λ s. CanDerive axioms s → ⊥) ss
+    cannot_right : (ss : List Relation) → cannot_check ss ≡ true → AllByRecursion (λ s. CanDerive axioms s → ⊥) ss
     cannot_right [] h = tt
     cannot_right (s ∷ ss) h =
         let test = derived axioms 3 3 s.kind s.left s.right in
@@ -95,7 +95,7 @@ abbrev all_check : List Case → Bool
 all_check [] = true
 all_check (c ∷ cs) = case_checks c && all_check cs
 
-all_right : (cs : List Case) → all_check cs ≡ true → All Right cs
+all_right : (cs : List Case) → all_check cs ≡ true → AllByRecursion Right cs
 all_right [] h = tt
 all_right (c ∷ cs) h = let parts = and_parts (case_checks c) (all_check cs) h in (case_right c parts.0, all_right cs parts.1)
 
@@ -103,5 +103,5 @@ run : all_check cases ≡ true
 unfolding closed signed_closed some
 run = refl
 
-pub cases_right : All Right cases
+pub cases_right : AllByRecursion Right cases
 cases_right = all_right cases run

@@ -1,6 +1,6 @@
 -- Cases worked by hand over 3 classes and 3 properties, and what is promised of each.
 use Rattle.std.specs.Prelude.{ℕ, Bool, false, ◌||◌, List, [], ◌∷◌, MatchBool, ◌==◌}
-use Rattle.std.specs.List.{AllByRecursion as All}
+use Rattle.std.specs.List.{AllByRecursion}
 use Rattle.axioms.specs.declared.axiom_types.Axiom.{Axiom}
 use Rattle.axioms.specs.declared.kinds.Kind.{Kind}
 use Rattle.axioms.specs.declared.kinds.Kind.TheVariants.{Csub, Psub, Cdis, Pdis, Dom, Ran, Psubinv, Pdisinv}
@@ -42,10 +42,10 @@ Found axioms name = FoundEmpty axioms 3 3 name
 
 -- the names listed are found empty and no other, by the rules and by the meaning; and the relations are as said
 pub record Right (c : Case) : Type 0 where
-  pub found : All (λ name. MatchBool (among name c.empty) (Found c.axioms name) (Found c.axioms name → ⊥)) all_names
-  pub meaning : All (λ name. MatchBool (among name c.empty) (Empty c.axioms name) (Inhabited c.axioms name)) all_names
-  pub can : All (CanDerive c.axioms) c.derivable
-  pub cannot : All (λ r. CanDerive c.axioms r → ⊥) c.not_derivable
+  pub found : AllByRecursion (λ name. MatchBool (among name c.empty) (Found c.axioms name) (Found c.axioms name → ⊥)) all_names
+  pub meaning : AllByRecursion (λ name. MatchBool (among name c.empty) (Empty c.axioms name) (Inhabited c.axioms name)) all_names
+  pub can : AllByRecursion (CanDerive c.axioms) c.derivable
+  pub cannot : AllByRecursion (λ r. CanDerive c.axioms r → ⊥) c.not_derivable
 
 abbrev pub ax : Kind → ℕ → ℕ → Axiom
 ax k l r = record { kind = k; left = l; right = r; trust = 50 }

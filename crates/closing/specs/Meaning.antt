@@ -1,6 +1,6 @@
 -- What axioms mean: when an interpretation fits them, and when a name is empty under them.
 use Rattle.std.specs.Prelude.{◌≡◌, ℕ, Bool, true, List}
-use Rattle.std.specs.List.{AllByRecursion as All}
+use Rattle.std.specs.List.{AllByRecursion}
 use Rattle.axioms.specs.declared.axiom_types.Axiom.{Axiom}
 use Rattle.axioms.specs.declared.kinds.Kind.{Kind}
 use Rattle.axioms.specs.declared.kinds.Kind.TheVariants.{Csub, Psub, Cdis, Pdis, Dom, Ran, Psubinv, Pdisinv}
@@ -36,7 +36,7 @@ module _ (I : Interpretation) where
   Fits a = Holds a.kind a.left a.right
 
   abbrev pub FitsAll : List Axiom → Type 0
-  FitsAll axioms = All Fits axioms
+  FitsAll axioms = AllByRecursion Fits axioms
 
   -- the class has no member, the property no pair
   abbrev pub HasNone : Name → Type 0

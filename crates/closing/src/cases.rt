@@ -1,6 +1,6 @@
 //! Promises about the rules themselves.
 ghost use Rattle.std.specs.Prelude.{◌≡◌, ℕ, List, length};
-ghost use Rattle.std.specs.List.{AllByRecursion as All};
+ghost use Rattle.std.specs.List.{AllByRecursion};
 ghost use Rattle.axioms.specs.declared.axiom_types.Axiom.{Axiom};
 ghost use Rattle.axioms.specs.declared.kinds.Kind.{Kind};
 ghost use Rattle.closing.specs.Cases.{Right, cases};
@@ -14,7 +14,7 @@ pub fn rules_are_sound()
 
 /// How many cases were worked by hand. Its promise is that in each of them exactly the expected names are empty.
 pub fn cases_are_right() -> usize
-    ensures each_case_is_right { All Right cases }
+    ensures each_case_is_right { AllByRecursion Right cases }
     ensures there_are_so_many { result ≡ length cases }
 {
     9
