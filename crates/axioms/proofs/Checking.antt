@@ -1,5 +1,5 @@
 -- The steps of the check answer as the raw numbers' grounds say.
-use Rattle.std.proofs.Common.{◌≡◌, ℕ, Bool, true, false, not, eqb, ◌⊎◌, ◌↔◌, Some, None, Ok, Err, Option, Result, sym, refl, ap, ◌∙◌, subst, inl, inr, ⊎_elim, arith}
+use Rattle.std.proofs.Common.{◌≡◌, ℕ, Bool, true, false, not, eqb, ◌⊎◌, ◌↔◌, Some, None, Ok, Err, Option, Result, sym, refl, ap, ◌∙◌, subst, inl, inr, ⊎_elim}
 use Rattle.std.proofs.lemmas.Bool.{both_ways, cases_Bool, cond-true, cond-false, eq-eqb, ne_eqb, and_from, and_left, and_right}
 use Rattle.axioms.specs.declared.kinds.Kind.{Kind}
 use Rattle.axioms.specs.declared.axiom_types.Axiom.{Axiom}
@@ -24,11 +24,11 @@ module _ (c p : ℕ) (raw : RawAxiom) where
   axiom_exactly (Ok b) o a =
       (λ e. let is : b ≡ a = cc in subst (λ x. States raw x × (well_formed c p x ≡ true)) is o, λ h. ap Ok (same_axiom raw b a o.0 h.0))
   axiom_exactly (Err e) o a =
-      (λ h. let z : ◌≡◌ {A = ℕ} 0 1 = cc in absurd (omega arith), λ h. absurd (none_not_first (raw_grounds c p raw) e (no_cause_for_formed c p raw a h.0 h.1) o))
+      (λ h. cc, λ h. absurd (none_not_first (raw_grounds c p raw) e (no_cause_for_formed c p raw a h.0 h.1) o))
 
   pub cause_exactly : (r : Result Axiom Cause) → Outcome r → (e : Cause) → (r ≡ Err e) ↔ FirstFitting (raw_grounds c p raw) e
   cause_exactly (Ok a) o e =
-      (λ h. let z : ◌≡◌ {A = ℕ} 0 1 = cc in absurd (omega arith), λ f. absurd (none_not_first (raw_grounds c p raw) e (no_cause_for_formed c p raw a o.0 o.1) f))
+      (λ h. cc, λ f. absurd (none_not_first (raw_grounds c p raw) e (no_cause_for_formed c p raw a o.0 o.1) f))
   cause_exactly (Err d) o e = (
     λ h. let is : d ≡ e = cc in subst (λ x. FirstFitting (raw_grounds c p raw) x) is o,
     λ f. ap Err (first_unique (raw_grounds c p raw) (refuse_single _ _, (refuse_single _ _, (refuse_single _ _, (refuse_single _ _, tt)))) d e o f),
@@ -36,23 +36,23 @@ module _ (c p : ℕ) (raw : RawAxiom) where
 
   -- the first step refuses as the first two grounds say
   unknown : kind_of raw.kind ≡ None → (k : Kind) → (row k).code ≡ raw.kind → ⊥
-  unknown none k h = let e = sym (kind_of_code k) ∙ ap kind_of h in let z : ◌≡◌ {A = ℕ} 0 1 = cc in omega arith
+  unknown none k h = let e = sym (kind_of_code k) ∙ ap kind_of h in cc
 
   ranged_err : (o : Option Kind) → kind_of raw.kind ≡ o → (e : Cause) → Err e ≡ ranged c p raw o → FirstFitting (raw_grounds c p raw) e
   ranged_err None is e h = inl (unknown is, cc)
   ranged_err (Some k) is e h =
       let code = code_of_kind raw.kind kinds k is in
       ⊎_elim
-      (λ t. let d : Err e ≡ Ok k = h ∙ cond-true _ (Ok k) (Err NameOutOfRange) t in let z : ◌≡◌ {A = ℕ} 0 1 = cc in absurd (omega arith))
+      (λ t. let d : Err e ≡ Ok k = h ∙ cond-true _ (Ok k) (Err NameOutOfRange) t in cc)
       (λ f. let d : Err e ≡ Err NameOutOfRange = h ∙ cond-false (names_in_range c p k raw.left raw.right) (Ok k) (Err NameOutOfRange) f in inr (λ r x. x.0 k code, inl ((k, code, f), cc)))
       (cases_Bool (names_in_range c p k raw.left raw.right))
 
   ranged_ok : (o : Option Kind) → kind_of raw.kind ≡ o → (k : Kind) → Ok k ≡ ranged c p raw o → ((row k).code ≡ raw.kind) × (names_in_range c p k raw.left raw.right ≡ true)
-  ranged_ok None is k h = let z : ◌≡◌ {A = ℕ} 0 1 = cc in absurd (omega arith)
+  ranged_ok None is k h = cc
   ranged_ok (Some j) is k h =
       ⊎_elim
       (λ t. let d : Ok k ≡ Ok j = h ∙ cond-true (names_in_range c p j raw.left raw.right) (Ok j) (Err NameOutOfRange) t in let same : j ≡ k = cc in subst (λ i. ((row i).code ≡ raw.kind) × (names_in_range c p i raw.left raw.right ≡ true)) same (code_of_kind raw.kind kinds j is, t))
-      (λ f. let d : Ok k ≡ Err NameOutOfRange = h ∙ cond-false (names_in_range c p j raw.left raw.right) (Ok j) (Err NameOutOfRange) f in let z : ◌≡◌ {A = ℕ} 0 1 = cc in absurd (omega arith))
+      (λ f. let d : Ok k ≡ Err NameOutOfRange = h ∙ cond-false (names_in_range c p j raw.left raw.right) (Ok j) (Err NameOutOfRange) f in cc)
       (cases_Bool (names_in_range c p j raw.left raw.right))
 
   pub out_of_range : (e : Cause) → Err e ≡ ranged c p raw (kind_of raw.kind) → Outcome (Err e)

@@ -1,5 +1,5 @@
 -- Laws of kinds and of well-formed axioms, offered to the crates above.
-use Rattle.std.proofs.Common.{◌≡◌, ℕ, zero, suc, Bool, true, eqb, List, [], ◌∷◌, get_or, set, replicate, Some, None, Option, sym, refl, ap, ◌∙◌, ⊎_elim, arith}
+use Rattle.std.proofs.Common.{◌≡◌, ℕ, zero, suc, Bool, true, eqb, List, [], ◌∷◌, get_or, set, replicate, Some, None, Option, sym, refl, ap, ◌∙◌, ⊎_elim}
 use Rattle.std.proofs.lemmas.Bool.{both_ways, cases_Bool, cond-true, cond-false, eqb-true, and_parts}
 use Rattle.axioms.specs.declared.kinds.Kind.{Kind}
 use Rattle.axioms.specs.declared.kinds.Kind.TheVariants.{Csub, Psub, Cdis, Pdis, Dom, Ran, Psubinv, Pdisinv}
@@ -23,7 +23,7 @@ kind_of_code Psubinv = refl
 kind_of_code Pdisinv = refl
 
 pub code_of_kind : (n : ℕ) (ks : List Kind) (k : Kind) → with_code n ks ≡ Some k → (row k).code ≡ n
-code_of_kind n [] k h = let z : ◌≡◌ {A = ℕ} 0 1 = cc in absurd (omega arith)
+code_of_kind n [] k h = cc
 code_of_kind n (j ∷ js) k h =
     ⊎_elim
     (λ t. let is : j ≡ k = cc (sym (cond-true (eqb n (row j).code) (Some j) (with_code n js) t) ∙ h) in ap (λ i. (row i).code) (sym is) ∙ sym (eqb-true n (row j).code t))
@@ -83,4 +83,4 @@ none_at (suc n) (suc k) = none_at n k
 
 -- vacant places hold no axiom
 pub formed_none : (c p n : ℕ) → AllFormed c p (replicate n None)
-formed_none c p n k a e = let d : None ≡ Some a = sym (none_at n k) ∙ e in let z : ◌≡◌ {A = ℕ} 0 1 = cc in absurd (omega arith)
+formed_none c p n k a e = let d : None ≡ Some a = sym (none_at n k) ∙ e in cc

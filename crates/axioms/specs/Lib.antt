@@ -4,3 +4,4 @@ pub mod Ordered
 pub mod Limits
 pub mod Axioms
 pub mod Steps
+pub mod Raw

@@ -10,7 +10,8 @@ use crate::counts::Counts;
 use crate::kinds::Kind;
 use crate::trust::Trust;
 
-/// The kind of the raw numbers, whose names are below the counts that the kind asks for.
+/// The kind of the raw numbers, whose names are below the counts that the kind asks for. One match over the codes, with
+/// the counts in its guards: the project asks for that form, so there is no `TryFrom` from a code.
 fn kind_in_range(raw: RawAxiom, counts: Counts) -> Result<Kind, Cause>
     ensures { result ≡ ranged counts.classes counts.properties raw (kind_of raw.kind) }
 {
@@ -38,7 +39,7 @@ pub fn check(raw: RawAxiom, counts: Counts) -> Result<Axiom, Cause>
     ensures else_the_first_cause { (e : Cause) → (result ≡ Err e) ↔ FirstFitting (raw_grounds counts.classes counts.properties raw) e }
 {
     let kind = kind_in_range(raw, counts)?;
-    let trust = Trust::check(raw.trust)?;
+    let trust = Trust::try_from(raw.trust)?;
     if kind.names_differ() && raw.left == raw.right {
         return Err(Cause::EqualNames);
     }

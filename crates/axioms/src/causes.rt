@@ -1,12 +1,13 @@
 //! Why a call is refused.
-ghost use Rattle.std.specs.Prelude.{◌≡◌, ◌==◌};
+ghost use Rattle.std.specs.Prelude.{◌≡◌, Some};
+ghost use Rattle.std.specs.Fmt.{decimal};
 ghost use Rattle.axioms.specs.Causes.{number as cause_number};
-ghost use Rattle.std.specs.Cmp.Rules.{comparing};
-ghost use Rattle.std.proofs.Common.{rules};
-ghost use Rattle.std.specs.Cmp as Keys;
+
+use std::error::Error;
+use std::fmt;
 
 /// docs/REFUSALS.md says which call is refused with which of these, and in which order.
-#[derive(Clone, Copy, Eq, Debug)]
+#[derive(Clone, Copy, PartialEq, Eq, Debug)]
 pub enum Cause {
     /// There is no such place.
     NoSuchPlace = 1,
@@ -59,13 +60,13 @@ impl Cause {
     }
 }
 
-impl PartialEq for Cause {
-    /// Causes are equal exactly when their numbers are.
-    ghost eq = { λ x y. (cause_number x == cause_number y) };
+/// A cause prints as its number.
+impl fmt::Display for Cause {
+    ghost output = { λ cause. Some (decimal (cause_number cause)) };
 
-    ghost laws = { Keys.partial_equiv_from_equiv (Prim.search (comparing, rules)) };
-
-    fn eq(&self, other: &Cause) -> bool {
-        self.number() == other.number()
+    fn fmt<W: fmt::Write>(&self, f: &mut fmt::Formatter<W>) -> fmt::Result {
+        write!(f, "{}", self.number())
     }
 }
+
+impl Error for Cause {}

@@ -17,7 +17,7 @@ pub struct Counts {
 }
 
 impl Counts {
-    /// The counts, or a refusal where one is above 64.
+    /// The counts, or a refusal where one is above 64. A check of two numbers: `try_from` of a pair would be no plainer.
     pub fn check(classes: u16, properties: u16) -> Result<Counts, Cause>
         ensures counts_exactly_when_few { MatchResult result (λ n. (n.classes ≡ classes) × (n.properties ≡ properties)) (λ e. (e ≡ NameOutOfRange) × ((classes ≤ most_names) × (properties ≤ most_names) → ⊥)) }
     {

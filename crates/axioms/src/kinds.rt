@@ -1,9 +1,11 @@
 //! The eight kinds of axioms.
-ghost use Rattle.std.specs.Prelude.{◌≡◌};
-ghost use Rattle.axioms.specs.Kinds.{row};
+ghost use Rattle.std.specs.Prelude.{◌≡◌, Some};
+ghost use Rattle.axioms.specs.Kinds.{row, kinds};
+
+use std::fmt;
 
 /// What a name is a name of.
-#[derive(Clone, Copy)]
+#[derive(Clone, Copy, PartialEq, Eq, Debug)]
 pub enum Sort {
     Class,
     Property,
@@ -31,6 +33,22 @@ pub enum Kind {
 }
 
 impl Kind {
+    /// Every kind, in the order of the codes.
+    pub fn all() -> [Kind; 8]
+        ensures are_the_kinds { result ≡ kinds }
+    {
+        [
+            Kind::Csub,
+            Kind::Psub,
+            Kind::Cdis,
+            Kind::Pdis,
+            Kind::Dom,
+            Kind::Ran,
+            Kind::Psubinv,
+            Kind::Pdisinv,
+        ]
+    }
+
     /// The number by which raw input names the kind.
     pub fn code(self) -> u8
         ensures is_the_code { result ≡ (row self).code }
@@ -84,5 +102,14 @@ impl Kind {
             Kind::Csub | Kind::Cdis | Kind::Dom | Kind::Ran => Sort::Class,
             Kind::Psub | Kind::Pdis | Kind::Psubinv | Kind::Pdisinv => Sort::Property,
         }
+    }
+}
+
+/// A kind prints as its word.
+impl fmt::Display for Kind {
+    ghost output = { λ kind. Some (row kind).word };
+
+    fn fmt<W: fmt::Write>(&self, f: &mut fmt::Formatter<W>) -> fmt::Result {
+        f.write_str(self.word())
     }
 }

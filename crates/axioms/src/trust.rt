@@ -16,11 +16,13 @@ pub struct Trust {
     ghost in_range: { in_trust value ≡ true },
 }
 
-impl Trust {
-    /// The trust, or a refusal where it is not 1 to 100.
-    pub fn check(value: u16) -> Result<Trust, Cause>
-        ensures trust_exactly_when_in_range { MatchResult result (λ t. t.value ≡ value) (λ e. (e ≡ TrustOutOfRange) × (in_trust value ≡ false)) }
-    {
+/// The trust, or a refusal where the number is not 1 to 100.
+impl TryFrom<u16> for Trust {
+    type Error = Cause;
+
+    ghost try_from_gives = { λ number r. MatchResult r (λ t. t.value ≡ number) (λ e. (e ≡ TrustOutOfRange) × (in_trust number ≡ false)) };
+
+    fn try_from(value: u16) -> Result<Trust, Cause> {
         if value < LEAST_TRUST || value > MOST_TRUST {
             return Err(Cause::TrustOutOfRange);
         }

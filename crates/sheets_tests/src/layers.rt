@@ -14,10 +14,10 @@ fn ninety() -> Result<Workbook, Cause> {
 
 #[test]
 fn floor_90_shows_trust_90_and_floor_91_hides_it(rt: HostRuntime) -> Result<(), Fail> {
-    let shown = Floor::over(ninety()?, Trust::check(90)?);
+    let shown = Floor::over(ninety()?, Trust::try_from(90)?);
     assert_eq!(rt; shown.at(0), shown.below.at(0));
     assert_eq!(rt; shown.at(0).is_ok(), true);
-    let hidden = Floor::over(ninety()?, Trust::check(91)?);
+    let hidden = Floor::over(ninety()?, Trust::try_from(91)?);
     assert_eq!(rt; hidden.at(0), Ok(None));
     assert_eq!(rt; hidden.classes(), 3);
     assert_eq!(rt; hidden.properties(), 2);
@@ -27,10 +27,10 @@ fn floor_90_shows_trust_90_and_floor_91_hides_it(rt: HostRuntime) -> Result<(), 
 
 #[test]
 fn a_floor_is_1_to_100(rt: HostRuntime) {
-    assert_eq!(rt; Trust::check(0).err(), Some(Cause::TrustOutOfRange));
-    assert_eq!(rt; Trust::check(1).is_ok(), true);
-    assert_eq!(rt; Trust::check(100).is_ok(), true);
-    assert_eq!(rt; Trust::check(101).err(), Some(Cause::TrustOutOfRange));
+    assert_eq!(rt; Trust::try_from(0).err(), Some(Cause::TrustOutOfRange));
+    assert_eq!(rt; Trust::try_from(1).is_ok(), true);
+    assert_eq!(rt; Trust::try_from(100).is_ok(), true);
+    assert_eq!(rt; Trust::try_from(101).err(), Some(Cause::TrustOutOfRange));
 }
 
 fn fault(depth: u8) -> Fault {
@@ -43,7 +43,7 @@ fn fault(depth: u8) -> Fault {
 
 #[test]
 fn each_layer_hands_a_fault_up_one_deeper_to_255(rt: HostRuntime) -> Result<(), Fail> {
-    let floor = Trust::check(1)?;
+    let floor = Trust::try_from(1)?;
     let once = Floor::over(FaultySheet(fault(0)), floor);
     assert_eq!(rt; once.at(0), Err(fault(1)));
     let twice = Floor::over(once, floor);
@@ -55,7 +55,7 @@ fn each_layer_hands_a_fault_up_one_deeper_to_255(rt: HostRuntime) -> Result<(), 
 
 #[test]
 fn past_the_end_the_fault_is_the_layers_own(rt: HostRuntime) -> Result<(), Fail> {
-    let layered = Floor::over(Floor::over(ninety()?, Trust::check(1)?), Trust::check(1)?);
+    let layered = Floor::over(Floor::over(ninety()?, Trust::try_from(1)?), Trust::try_from(1)?);
     assert_eq!(rt; layered.at(1), Err(Fault::no_such_place(1)));
     Ok(())
 }

@@ -144,7 +144,7 @@ fn try_tour(rt: &impl Print, classes: u16, floor: u16) -> io::Result<()> {
             return println!(rt; "a workbook for {classes} classes: refused with {number}");
         }
     };
-    match Trust::check(floor) {
+    match Trust::try_from(floor) {
         Ok(floor) => tour(rt, counts, floor),
         Err(cause) => {
             let number = cause.number();
