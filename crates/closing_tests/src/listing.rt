@@ -1,60 +1,23 @@
 //! Reading a listing: a line with the counts of names, and then a line for each place.
 use axioms::{Axiom, Cause, Counts, Kind, RawAxiom, check};
 use closing::Theory;
-use std::error::Error;
-use std::fmt;
-use std::num::ParseIntError;
 use std::str::{Lines, Split};
-
-const KINDS: [Kind; 8] = [
-    Kind::Csub,
-    Kind::Psub,
-    Kind::Cdis,
-    Kind::Pdis,
-    Kind::Dom,
-    Kind::Ran,
-    Kind::Psubinv,
-    Kind::Pdisinv,
-];
+use thiserror::Error;
 
 /// Why a listing is not read.
-#[derive(Clone, Copy, Debug)]
+#[derive(Clone, Copy, Debug, Error)]
 pub(crate) enum Fault {
     /// A line has not the form of a listing's line.
+    #[error("a line is malformed")]
     Malformed,
     /// The numbers of a line are refused.
-    Refused(Cause),
+    #[error("a line is refused with {0}")]
+    Refused(#[from] Cause),
 }
-
-impl From<Cause> for Fault {
-    fn from(cause: Cause) -> Fault {
-        Fault::Refused(cause)
-    }
-}
-
-impl From<ParseIntError> for Fault {
-    fn from(_e: ParseIntError) -> Fault {
-        Fault::Malformed
-    }
-}
-
-impl fmt::Display for Fault {
-    fn fmt<W: fmt::Write>(&self, f: &mut fmt::Formatter<W>) -> fmt::Result {
-        match self {
-            Fault::Malformed => write!(f, "a line is malformed"),
-            Fault::Refused(cause) => {
-                let number = cause.number();
-                write!(f, "a line is refused with {number}")
-            }
-        }
-    }
-}
-
-impl Error for Fault {}
 
 fn number(words: &mut Split<'_, char>) -> Result<u16, Fault> {
     let word = words.next().ok_or(Fault::Malformed)?;
-    Ok(word.parse::<u16>()?)
+    word.parse::<u16>().map_err(|_| Fault::Malformed)
 }
 
 fn ended(words: &mut Split<'_, char>) -> Result<(), Fault> {
@@ -65,12 +28,10 @@ fn ended(words: &mut Split<'_, char>) -> Result<(), Fault> {
 }
 
 fn kind_of(word: &str) -> Result<Kind, Fault> {
-    for kind in KINDS {
-        if kind.word() == word {
-            return Ok(kind);
-        }
-    }
-    Err(Fault::Malformed)
+    Kind::all()
+        .into_iter()
+        .find(|kind| kind.word() == word)
+        .ok_or(Fault::Malformed)
 }
 
 /// The counts of a line `names CLASSES PROPERTIES FLOOR`.

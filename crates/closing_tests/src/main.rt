@@ -5,7 +5,20 @@ mod listing;
 
 use closing::{Name, PLACES, Stage1, Stage2, Stage3, Stage4, Stage5, Theory};
 use listing::{Fault, theory_of};
-use std::io;
+use std::{fmt, io};
+
+/// A name as a report lists it.
+#[derive(Clone, Copy)]
+struct Listed(Name);
+
+impl fmt::Display for Listed {
+    fn fmt<W: fmt::Write>(&self, f: &mut fmt::Formatter<W>) -> fmt::Result {
+        match self.0 {
+            Name::Class(class) => write!(f, "class {class}"),
+            Name::Property(property) => write!(f, "property {property}"),
+        }
+    }
+}
 
 fn closed(theory: &Theory) -> Stage5<'_> {
     let first = Stage1::over(theory);
@@ -15,31 +28,22 @@ fn closed(theory: &Theory) -> Stage5<'_> {
     Stage5::after(fourth)
 }
 
-fn axiom_count(theory: &Theory) -> usize {
-    let mut held = 0;
-    for place in 0..PLACES {
-        if theory.at(place).is_some() {
-            held += 1;
-        }
-    }
-    held
-}
-
 fn report(rt: &impl Print, theory: &Theory) -> io::Result<()> {
     let closed = closed(theory);
-    let axioms = axiom_count(theory);
+    let axioms = (0..PLACES)
+        .filter(|place| theory.at(*place).is_some())
+        .count();
     let empty = closed.empty_names();
     println!(rt; "axioms {axioms}")?;
     println!(rt; "empty {empty}")?;
-    for class in 0..theory.counts().classes {
-        if closed.is_empty(Name::Class(class)) {
-            println!(rt; "class {class}")?;
-        }
-    }
-    for property in 0..theory.counts().properties {
-        if closed.is_empty(Name::Property(property)) {
-            println!(rt; "property {property}")?;
-        }
+    let counts = theory.counts();
+    let classes = (0..counts.classes).map(Name::Class);
+    let properties = (0..counts.properties).map(Name::Property);
+    for name in classes
+        .chain(properties)
+        .filter(|name| closed.is_empty(*name))
+    {
+        println!(rt; "{}", Listed(name))?;
     }
     Ok(())
 }

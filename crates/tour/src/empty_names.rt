@@ -1,6 +1,6 @@
 //! Closing a workbook's axioms, and the names that are empty under them.
-use crate::sample::name;
-use axioms::{Kind, Sort};
+use crate::shown::Shown;
+use axioms::{Counts, Kind};
 use closing::{Name, Stage1, Stage2, Stage3, Stage4, Stage5, Theory};
 use sheets::{Sheet, Workbook};
 use std::io;
@@ -23,18 +23,14 @@ fn yes_or_no(answer: Option<bool>) -> &'static str {
 }
 
 /// Prints each name that is empty.
-fn list(rt: &impl Print, fifth: &Stage5<'_>, classes: u8, properties: u8) -> io::Result<()> {
-    for number in 0..classes {
-        if fifth.is_empty(Name::Class(number)) {
-            let class = name(Sort::Class, number);
-            println!(rt; "class {class} is empty")?;
-        }
-    }
-    for number in 0..properties {
-        if fifth.is_empty(Name::Property(number)) {
-            let property = name(Sort::Property, number);
-            println!(rt; "property {property} is empty")?;
-        }
+fn list(rt: &impl Print, fifth: &Stage5<'_>, counts: Counts) -> io::Result<()> {
+    let classes = (0..counts.classes).map(Name::Class);
+    let properties = (0..counts.properties).map(Name::Property);
+    for name in classes
+        .chain(properties)
+        .filter(|name| fifth.is_empty(*name))
+    {
+        println!(rt; "{} is empty", Shown(name))?;
     }
     Ok(())
 }
@@ -55,5 +51,5 @@ pub(crate) fn close(rt: &impl Print, book: &Workbook, mut theory: Theory) -> io:
     let fifth = Stage5::after(fourth);
     let number = fifth.empty_names();
     println!(rt; "stage 5: empty names: {number}")?;
-    list(rt, &fifth, book.classes(), book.properties())
+    list(rt, &fifth, theory.counts())
 }

@@ -9,7 +9,7 @@ use axioms::{Cause, Counts, Kind, RawAxiom, Trust};
 use closing::Theory;
 use sheets::{Floor, OpenSheet, SLOTS, Sheet, Workbook};
 use shown::{Answer, Sentence};
-use std::io;
+use std::{fmt, io};
 
 fn raw(kind: Kind, left: u16, right: u16, trust: u16) -> RawAxiom {
     RawAxiom {
@@ -24,32 +24,33 @@ fn raw(kind: Kind, left: u16, right: u16, trust: u16) -> RawAxiom {
 fn state_all(rt: &impl Print, book: &mut Workbook) -> io::Result<()> {
     for (kind, left, right, trust) in sample::STATEMENTS {
         match book.state(raw(kind, left, right, trust)) {
-            Ok(place) => {
-                let answer = Answer(book.at(place));
-                println!(rt; "place {place}: {answer}")?;
-            }
-            Err(cause) => refused(rt, "a statement of the sample", cause)?,
+            Ok(place) => println!(rt; "place {place}: {}", Answer(book.at(place)))?,
+            Err(cause) => println!(rt; "a statement of the sample: refused with {cause}")?,
         }
     }
     Ok(())
 }
 
-fn refused(rt: &impl Print, what: &str, cause: Cause) -> io::Result<()> {
-    let number = cause.number();
-    println!(rt; "{what}: refused with {number}")
+/// Says how a statement or a withdrawal fares: what it did, or why it is refused.
+fn tell<T: fmt::Display + Drop>(
+    rt: &impl Print,
+    what: &str,
+    did: &str,
+    outcome: Result<T, Cause>,
+) -> io::Result<()> {
+    match outcome {
+        Ok(answer) => println!(rt; "{what}: {did} {answer}"),
+        Err(cause) => println!(rt; "{what}: refused with {cause}"),
+    }
 }
 
-/// Says how a statement that should be refused fares.
 fn try_statement(
     rt: &impl Print,
     book: &mut Workbook,
     what: &str,
     stated: RawAxiom,
 ) -> io::Result<()> {
-    match book.state(stated) {
-        Ok(place) => println!(rt; "{what}: stated at place {place}"),
-        Err(cause) => refused(rt, what, cause),
-    }
+    tell(rt, what, "stated at place", book.state(stated))
 }
 
 fn try_withdrawal(
@@ -58,13 +59,7 @@ fn try_withdrawal(
     what: &str,
     place: usize,
 ) -> io::Result<()> {
-    match book.withdraw(place) {
-        Ok(withdrawn) => {
-            let sentence = Sentence(withdrawn);
-            println!(rt; "{what}: took back {sentence}")
-        }
-        Err(cause) => refused(rt, what, cause),
-    }
+    tell(rt, what, "took back", book.withdraw(place).map(Sentence))
 }
 
 /// Fills a workbook, and says how the statement after the last slot fares.
@@ -86,11 +81,9 @@ fn fill(rt: &impl Print, counts: Counts) -> io::Result<()> {
 /// What both sheets answer, place by place and once past the end.
 fn compare(rt: &impl Print, layered: &Floor<Workbook>) -> io::Result<()> {
     for place in 0..=layered.places() {
-        let book = Answer(layered.below.at(place));
-        let floor = Answer(layered.at(place));
         println!(rt; "place {place}")?;
-        println!(rt; "  book:  {book}")?;
-        println!(rt; "  floor: {floor}")?;
+        println!(rt; "  book:  {}", Answer(layered.below.at(place)))?;
+        println!(rt; "  floor: {}", Answer(layered.at(place)))?;
     }
     Ok(())
 }
@@ -137,19 +130,13 @@ fn tour(rt: &impl Print, counts: Counts, floor: Trust) -> io::Result<()> {
 
 /// The tour over a book with so many classes and that floor, if there can be such.
 fn try_tour(rt: &impl Print, classes: u16, floor: u16) -> io::Result<()> {
-    let counts = match Counts::check(classes, sample::PROPERTIES) {
-        Ok(counts) => counts,
-        Err(cause) => {
-            let number = cause.number();
-            return println!(rt; "a workbook for {classes} classes: refused with {number}");
-        }
-    };
-    match Trust::try_from(floor) {
-        Ok(floor) => tour(rt, counts, floor),
-        Err(cause) => {
-            let number = cause.number();
-            println!(rt; "a floor of {floor}: refused with {number}")
-        }
+    match (
+        Counts::check(classes, sample::PROPERTIES),
+        Trust::try_from(floor),
+    ) {
+        (Err(cause), _) => println!(rt; "a workbook for {classes} classes: refused with {cause}"),
+        (_, Err(cause)) => println!(rt; "a floor of {floor}: refused with {cause}"),
+        (Ok(counts), Ok(floor)) => tour(rt, counts, floor),
     }
 }
 

@@ -1,6 +1,7 @@
 //! Axioms and answers as text for people.
 use crate::sample::name;
-use axioms::Axiom;
+use axioms::{Axiom, Sort};
+use closing::Name;
 use sheets::Fault;
 use std::fmt;
 
@@ -9,12 +10,23 @@ pub struct Sentence(pub Axiom);
 
 impl fmt::Display for Sentence {
     fn fmt<W: fmt::Write>(&self, f: &mut fmt::Formatter<W>) -> fmt::Result {
-        let kind = self.0.kind;
-        let word = kind.word();
+        let Axiom { kind, trust, .. } = self.0;
         let left = name(kind.left_sort(), self.0.left);
         let right = name(kind.right_sort(), self.0.right);
-        let trust = self.0.trust;
-        write!(f, "{word} {left} {right}, trust {trust}")
+        write!(f, "{kind} {left} {right}, trust {trust}")
+    }
+}
+
+/// A name with what it is a name of.
+#[derive(Clone, Copy)]
+pub struct Shown(pub Name);
+
+impl fmt::Display for Shown {
+    fn fmt<W: fmt::Write>(&self, f: &mut fmt::Formatter<W>) -> fmt::Result {
+        match self.0 {
+            Name::Class(class) => write!(f, "class {}", name(Sort::Class, class)),
+            Name::Property(property) => write!(f, "property {}", name(Sort::Property, property)),
+        }
     }
 }
 
@@ -25,17 +37,15 @@ pub struct Answer(pub Result<Option<Axiom>, Fault>);
 impl fmt::Display for Answer {
     fn fmt<W: fmt::Write>(&self, f: &mut fmt::Formatter<W>) -> fmt::Result {
         match self.0 {
-            Ok(Some(held)) => {
-                let sentence = Sentence(held);
-                write!(f, "{sentence}")
-            }
+            Ok(Some(held)) => write!(f, "{}", Sentence(held)),
             Ok(None) => write!(f, "vacant"),
-            Err(fault) => {
-                let cause = fault.cause.number();
-                let place = fault.place;
-                let depth = fault.depth;
-                write!(f, "fault {cause}, place {place}, depth {depth}")
-            }
+            Err(
+                Fault {
+                    cause,
+                    place,
+                    depth,
+                },
+            ) => write!(f, "fault {cause}, place {place}, depth {depth}"),
         }
     }
 }
