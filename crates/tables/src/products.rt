@@ -55,6 +55,17 @@ impl Table {
         turned
     }
 
+    /// Each pair as it stands and the other way round.
+    pub fn either_way(&self) -> Table
+        ensures holds_each_both_ways { Agree 64 64 (cell result) (λ i j. cell self.now i j || cell self.now j i) }
+    {
+        let mut both = self.turned();
+        for name in 0u8..64 {
+            both.add(name, self.row(name));
+        }
+        both
+    }
+
     /// Adds `name` to the rows of the names in `lefts`.
     fn add_column(&mut self, name: u8, lefts: NameSet)
         ensures { Agree 64 64 (cell self.new) (λ i j. cell self.old i j || (has lefts i && j == name)) }

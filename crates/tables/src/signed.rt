@@ -1,5 +1,5 @@
 //! Two relations between names, one as it stands and one between reversed pairs, as tables.
-ghost use Rattle.std.specs.Prelude.{◌<◌};
+ghost use Rattle.std.specs.Prelude.{◌≡◌, ℕ, ◌<◌, Bool, false};
 ghost use Rattle.tables.specs.Least.{LeastSignedJoining};
 ghost use Rattle.tables.specs.Relations.{nothing, turned};
 ghost use Rattle.tables.specs.Signed.{AgreeBoth, BothSameFrom, joined, crossed, signed_closed, signed_product};
@@ -15,6 +15,15 @@ pub struct SignedTable {
 }
 
 impl SignedTable {
+    pub fn none() -> SignedTable
+        ensures holds_no_pair { (s : Bool) (i j : ℕ) → cells result s i j ≡ false }
+    {
+        SignedTable {
+            along: Table::none(),
+            against: Table::none(),
+        }
+    }
+
     /// Adds every pair that a chain of pairs leads to, over the names of the span. Two reversals cancel.
     pub fn close(&mut self, n: Span)
         ensures holds_each_chain { AgreeBoth n.names 64 (cells self.new) (signed_closed n.names (cells self.old)) }
