@@ -1,13 +1,13 @@
 -- The binary digits of a set.
-use Rattle.std.proofs.Common.{◌≡◌, ℕ, zero, suc, ◌+◌, ◌-◌, ◌*◌, ◌/◌, ◌%◌, ◌^◌, ◌<◌, ◌≤◌, Bool, true, false, not, ◌&&◌, ◌||◌, eqb, ltb, ◌⊎◌, sym, refl, ap, ◌∙◌, subst, inl, inr, one-mul, zero-mul, div-one, one-add, arith}
-use native.Mathlib.Nat.{zero-div, div-eq_of_lt, mod-one, mul-mod_left}
+use Rattle.std.proofs.Common.{◌≡◌, ℕ, zero, suc, ◌+◌, ◌-◌, ◌*◌, ◌/◌, ◌%◌, ◌^◌, ◌<◌, ◌≤◌, Bool, true, false, ◌&&◌, ◌||◌, eqb, ltb, ◌⊎◌, sym, refl, ap, ◌∙◌, inl, inr, one-mul, div-one, one-add, arith}
+use native.Mathlib.Nat.{zero-div, div-eq_of_lt}
 use lib.Bits.{bit_and, bit_or, shifted_even}
 use lib.Count.{count_trailing_zeros, trailing_of_zero, under}
-use Rattle.std.proofs.lemmas.Nat.{or_shr, and_shr, or_mod, and_mod, and_mask, one_shl, shl-shr, shr-shr, pow-add, pow_pos, pow_below, mod_below, div-add-mod', mod-pow-add, mul-lt}
-use Rattle.std.proofs.lemmas.Bool.{cases_eq, cases_order, eq-eqb, ne_eqb, lt-ltb, le-ltb}
+use Rattle.std.proofs.lemmas.Nat.{and_le_r, or_shr, and_shr, or_mod, and_mod, and_mask, one_shl, shl-shr, shr-shr, pow-add, pow_below, mod_below, div-add-mod'}
+use Rattle.std.proofs.lemmas.Bool.{cases_lt, cases_eq, cases_order, eq-eqb, ne_eqb, lt-ltb, le-ltb}
 use Rattle.tables.specs.Relations.{some}
 use Rattle.tables.specs.Sets.{bit}
-use Rattle.tables.proofs.Sums.{some_like}
+use Rattle.tables.proofs.Sums.{some_made, some_never}
 
 pub bit_none : (j : ℕ) → bit 0 j ≡ false
 unfolding bit
@@ -54,8 +54,8 @@ bit_pow k j =
     lower : (d : ℕ) → k ≡ suc d + j → 2 ^ k / 2 ^ j % 2 ≡ 0
     lower d e = rw (e, pow-add 2 (suc d) j, shl-shr (2 ^ suc d) j) (let z : 1 * 2 ^ suc d % 2 ≡ 0 = shifted_even 1 d in rw one-mul at z)
 
-pub bit_with : (x k j : ℕ) → k < 64 → bit (bit_or x ((1 * 2 ^ k) % 2 ^ 64)) j ≡ (bit x j || eqb j k)
-bit_with x k j h = rw (one_shl k 64 h) (bit_of_or x (2 ^ k) j ∙ ap (λ b. bit x j || b) (bit_pow k j))
+pub bit_only : (k j : ℕ) → k < 64 → bit ((1 * 2 ^ k) % 2 ^ 64) j ≡ eqb j k
+bit_only k j h = rw (one_shl k 64 h) (bit_pow k j)
 
 pub bit_read : (x k : ℕ) → eqb (bit_and (x / 2 ^ k) 1) 1 ≡ bit x k
 unfolding bit
@@ -151,32 +151,14 @@ bit_dropped x j h =
     both true = refl
     both false = refl
 
--- some digit below n is 1 exactly when the number's rest by 2 ^ n is not 0
-some_digit : (n x : ℕ) → some n (bit x) ≡ not (eqb (x % 2 ^ n) 0)
-unfolding some bit
-some_digit zero x = rw (mod-one x)
-some_digit (suc n) x = rw (← one-add n, mod-pow-add x 1 n) (rw (some_digit n x) (top _ _ _ (pow_pos n) (mod_below (x / 2 ^ n) 2 (omega arith))))
-  where
-    top : (d m p : ℕ) → 0 < p → d < 2 → (eqb d 1 || not (eqb m 0)) ≡ not (eqb (d * p + m) 0)
-    top d m p hp hd =
-        elim (two d hd) [
-          | inl e ↦ rw e (ap (λ k. not (eqb k 0)) (omega arith))
-          | inr e ↦ rw (e, ne_eqb (1 * p + m) 0 (λ z. omega arith))
-        ]
+-- the lowest digit that is 1 stands below n exactly when some digit below n is 1
+pub first_below : (n x : ℕ) → n ≤ 64 → ltb (count_trailing_zeros 64 x) n ≡ some n (bit x)
+first_below n x h =
+    let t = count_trailing_zeros 64 x in
+    elim (cases_lt t n) [
+      | inl within ↦ rw (lt-ltb t n within) (sym (some_made n (bit x) t within (trailing_one 64 x (omega arith))))
+      | inr past ↦ rw (le-ltb t n past) (some_never n (bit x) (λ k hk. trailing_none 64 x k (omega arith)))
+    ]
 
--- pushed to the top of 64 digits, what two numbers share below n is not 0
-pub some_shared : (n x y : ℕ) → n ≤ 64 → not (eqb ((bit_and x y * 2 ^ (64 - n)) % 2 ^ 64) 0) ≡ some n (λ j. bit x j && bit y j)
-some_shared n x y h =
-    let whole : n + (64 - n) ≡ 64 = omega arith in
-    ap not (subst (λ w. eqb ((bit_and x y * 2 ^ (64 - n)) % 2 ^ w) 0 ≡ eqb (bit_and x y % 2 ^ n) 0) whole (raised (bit_and x y) n (64 - n)))
-    ∙ sym (some_digit n (bit_and x y)) ∙ some_like n (bit (bit_and x y)) (λ j. bit x j && bit y j) (λ j hj. bit_of_and x y j)
-  where
-    scaled : (q p : ℕ) → 0 < p → eqb (q * p + 0) 0 ≡ eqb q 0
-    scaled q p hp =
-        elim (cases_eq q 0) [
-          | inl e ↦ rw (e, zero-mul p)
-          | inr ne ↦ rw (ne_eqb q 0 ne, ne_eqb (q * p + 0) 0 (λ z. omega (arith, mul-lt 0 0 q p (omega arith) hp)))
-        ]
-
-    raised : (z n m : ℕ) → eqb (z * 2 ^ m % 2 ^ (n + m)) 0 ≡ eqb (z % 2 ^ n) 0
-    raised z n m = rw (mod-pow-add (z * 2 ^ m) n m, shl-shr z m, mul-mod_left z (2 ^ m)) (scaled (z % 2 ^ n) (2 ^ m) (pow_pos m))
+pub less_dropped : (x : ℕ) → 0 < x → bit_and x (x - 1) < x
+less_dropped x h = omega (arith, and_le_r x (x - 1))

@@ -8,3 +8,5 @@ mod Digits
 mod Steps
 mod Rows
 mod Walking
+mod Counting
+mod Alone

@@ -1,15 +1,15 @@
 -- What a step of a closing makes of the relations that the tables hold, for both closings.
 use Rattle.std.proofs.Common.{◌≡◌, ℕ, ◌+◌, ◌<◌, ◌≤◌, Bool, true, false, ◌&&◌, ◌||◌, eqb, ltb, sym, refl, ap, ◌∙◌, add-one, arith}
 use mathlib.Core.Bool.{or-false, or_self}
-use Rattle.std.proofs.lemmas.Bool.{and_parts, eqb-true, ne_eqb, le-ltb, lt-ltb}
+use Rattle.std.proofs.lemmas.Bool.{eqb-true, ne_eqb, le-ltb, lt-ltb}
 use Rattle.std.proofs.lemmas.Bool.Decides.{nat_tests}
 use Rattle.tables.specs.Least.{LeastJoining, LeastSignedJoining}
-use Rattle.tables.specs.Relations.{Rel, Agree, through, closed}
+use Rattle.tables.specs.Relations.{Rel, Agree, closed}
 use Rattle.tables.specs.Signed.{Signed, AgreeBoth, plus, joined, crossed, signed_closed}
-use Rattle.tables.proofs.Signs.{Signs, plain, reversing, Steps, On, under}
+use Rattle.tables.proofs.Signs.{Signs, reversing, Steps, On, under}
 use Rattle.tables.proofs.Joining.{across}
 use Rattle.tables.proofs.Likeness.{Alike, across_like, joined_like}
-use Rattle.tables.proofs.Closings.{steps, closed_holds, closed_joins, closed_within, joined_again, signed_holds, signed_joins, signed_within}
+use Rattle.tables.proofs.Closings.{closed_holds, closed_joins, closed_within, joined_again, signed_holds, signed_joins, signed_within}
 
 ltb_more : (j r : ℕ) → ltb j (r + 1) ≡ (ltb j r || eqb j r)
 ltb_more j r = grind (arith, nat_tests)
@@ -56,18 +56,6 @@ pub row_stays : (x y z : Bool) (i a : ℕ) → (i ≡ a → ⊥) → z ≡ (x ||
 row_stays x y z i a ne e = e ∙ rw (ne_eqb i a ne) (or-false x)
 
 -- a relation as it stands
-pub plain_stable : (w k : ℕ) (R : Rel) (s : plain.Sign) (j : ℕ) → j < w → plain.by (steps R) (steps R) k s k j ≡ true → R k j ≡ true
-plain_stable w k R s j hj h = (and_parts (R k k) (R k j) h).1
-
-pub closed_none : (n w : ℕ) (R : Rel) → Agree n w R (closed 0 R)
-unfolding closed
-closed_none n w R i j hi hj = refl
-
-pub closed_more : (n w : ℕ) (wide : n ≤ w) (m : ℕ) (R C D : Rel) → m < n → Agree n w C (closed m R) → Agree n w D (through m C) → Agree n w D (closed (m + 1) R)
-unfolding closed
-closed_more n w wide m R C D hm before step i j hi hj =
-    rw add-one (step i j hi hj ∙ across_like plain n w wide m hm (steps C) (steps (closed m R)) (λ s. before) tt i j hi hj)
-
 pub least_joining : (n : ℕ) (R C : Rel) → Agree n n C (closed n R) → LeastJoining n R C
 least_joining n R C like = record {
   holds = λ a b ha hb h. like a b ha hb ∙ closed_holds n R a b h;

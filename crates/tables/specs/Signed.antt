@@ -1,10 +1,15 @@
 -- Two relations between names together: one as it stands, and one between reversed pairs. Two reversals cancel.
 use Rattle.std.specs.Prelude.{ℕ, zero, suc, Bool, true, false, not, ◌&&◌, ◌||◌, ◌==◌}
-use Rattle.tables.specs.Relations.{Rel, Agree, SameFrom, some}
+use Rattle.tables.specs.Relations.{Rel, Agree, SameFrom, nothing, some}
 
 -- as it stands under false, between reversed pairs under true
 abbrev pub Signed : Type 0
 Signed = Bool → Rel
+
+-- a relation alone, with nothing between reversed pairs
+abbrev pub alone : Rel → Signed
+alone R false = R
+alone R true = nothing
 
 abbrev pub AgreeBoth : ℕ → ℕ → Signed → Signed → Type 0
 AgreeBoth lefts rights E F = (s : Bool) → Agree lefts rights (E s) (F s)

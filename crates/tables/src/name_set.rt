@@ -1,9 +1,10 @@
 //! A set of names below 64.
-ghost use Rattle.std.specs.Prelude.{◌≡◌, ℕ, ◌<◌, false, ◌&&◌, ◌||◌, ◌==◌, nat_lt};
+ghost use Rattle.std.specs.Prelude.{◌≡◌, ℕ, ◌<◌, ◌≤◌, false, ◌&&◌, ◌||◌, ◌==◌, nat_lt, MatchOption};
+ghost use Rattle.std.specs.Iterator.{at_most};
 ghost use Rattle.tables.specs.Relations.{some};
 ghost use Rattle.tables.specs.Sets.{has, first};
 
-use crate::span::Span;
+use crate::span::{Name, Span};
 
 /// A row of a table: one bit for each name.
 #[derive(Clone, Copy)]
@@ -18,38 +19,19 @@ impl NameSet {
         NameSet { bits: 0 }
     }
 
-    pub(crate) fn contains(self, name: u8) -> bool
-        requires { name < 64 }
-        ensures { result ≡ has self name }
-    {
-        (self.bits >> name) & 1 == 1
-    }
-
-    /// The first name of the set, or 64 where it has none.
-    pub(crate) fn first(self) -> u8
-        ensures { result ≡ first self }
-    {
-        self.bits.trailing_zeros() as u8
-    }
-
-    /// The set without its first name.
-    pub(crate) fn without_first(self) -> NameSet
-        requires { first self < 64 }
-        ensures { (j : ℕ) → has result j ≡ (nat_lt (first self) j && has self j) }
+    /// One name alone.
+    pub(crate) fn only(name: Name) -> NameSet
+        ensures { (j : ℕ) → has result j ≡ (j == name.number) }
     {
         NameSet {
-            bits: self.bits & (self.bits - 1),
+            bits: 1 << name.number,
         }
     }
 
-    /// One name more.
-    pub(crate) fn with(self, name: u8) -> NameSet
-        requires { name < 64 }
-        ensures { (j : ℕ) → has result j ≡ (has self j || j == name) }
+    pub(crate) fn contains(self, name: Name) -> bool
+        ensures { result ≡ has self name.number }
     {
-        NameSet {
-            bits: self.bits | (1 << name),
-        }
+        (self.bits >> name.number) & 1 == 1
     }
 
     pub(crate) fn union(self, other: NameSet) -> NameSet
@@ -71,9 +53,40 @@ impl NameSet {
     pub(crate) fn meets(self, other: NameSet, n: Span) -> bool
         ensures { result ≡ some n.names (λ j. has self j && has other j) }
     {
-        if n.names == 0 {
-            return false;
+        (self.bits & other.bits).trailing_zeros() < u32::from(n.names)
+    }
+
+    /// Its names that the span has, rising.
+    pub(crate) fn within(self, n: Span) -> NamesOfSet
+        ensures of_the_set { result.left ≡ self }
+        ensures of_the_span { result.n.names ≡ n.names }
+    {
+        NamesOfSet { left: self, n }
+    }
+}
+
+/// The names of a set that a span has, rising.
+#[derive(Drop)]
+pub(crate) struct NamesOfSet {
+    left: NameSet,
+    n: Span,
+}
+
+impl Iterator for NamesOfSet {
+    type Item = Name;
+
+    ghost next_gives = { λ s r t. (t.n.names ≡ s.n.names)
+        × MatchOption r (s.n.names ≤ first s.left) (λ name. (name.number ≡ first s.left)
+        × (first s.left < s.n.names) × ((j : ℕ) → has t.left j ≡ (nat_lt (first s.left) j && has s.left j))) };
+
+    ghost remaining = { λ s. at_most s.left.bits };
+
+    fn next(&mut self) -> Option<Name> {
+        let number = self.left.bits.trailing_zeros() as u8;
+        if number >= self.n.names {
+            return None;
         }
-        (self.bits & other.bits) << (64 - n.names) != 0
+        self.left.bits &= self.left.bits - 1;
+        Some(Name { number })
     }
 }

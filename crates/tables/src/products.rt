@@ -5,7 +5,7 @@ ghost use Rattle.tables.specs.Sets.{has};
 ghost use Rattle.tables.specs.Tables.{cell};
 
 use crate::name_set::NameSet;
-use crate::span::Span;
+use crate::span::{Name, Span};
 use crate::table::Table;
 
 impl Table {
@@ -14,12 +14,8 @@ impl Table {
         ensures { (j : ℕ) → has result j ≡ some n.names (λ k. has names k && cell self.now k j) }
     {
         let mut all = NameSet::none();
-        let mut left = names;
-        let mut name = left.first();
-        while name < n.names {
+        for name in names.within(n) {
             all = self.row(name).union(all);
-            left = left.without_first();
-            name = left.first();
         }
         all
     }
@@ -29,7 +25,7 @@ impl Table {
         ensures added { Agree lefts.names 64 (cell self.new) (λ i j. cell self.old i j || product middles.names (cell left.now) (cell right.now) i j) }
         ensures others { SameFrom lefts.names (cell self.new) (cell self.old) }
     {
-        for name in 0..lefts.names {
+        for name in lefts.each() {
             self.add(name, right.gathered(left.row(name), middles));
         }
     }
@@ -49,7 +45,7 @@ impl Table {
         ensures each_the_other_way { Agree 64 64 (cell result) (turned (cell self.now)) }
     {
         let mut turned = Table::none();
-        for name in 0u8..64 {
+        for name in Span::ALL.each() {
             turned.add_column(name, self.row(name));
         }
         turned
@@ -60,22 +56,18 @@ impl Table {
         ensures holds_each_both_ways { Agree 64 64 (cell result) (λ i j. cell self.now i j || cell self.now j i) }
     {
         let mut both = self.turned();
-        for name in 0u8..64 {
+        for name in Span::ALL.each() {
             both.add(name, self.row(name));
         }
         both
     }
 
     /// Adds `name` to the rows of the names in `lefts`.
-    fn add_column(&mut self, name: u8, lefts: NameSet)
-        ensures { Agree 64 64 (cell self.new) (λ i j. cell self.old i j || (has lefts i && j == name)) }
+    fn add_column(&mut self, name: Name, lefts: NameSet)
+        ensures { Agree 64 64 (cell self.new) (λ i j. cell self.old i j || (has lefts i && j == name.number)) }
     {
-        let mut rest = lefts;
-        let mut left = rest.first();
-        while left < 64 {
-            self.mark(left, name);
-            rest = rest.without_first();
-            left = rest.first();
+        for left in lefts.within(Span::ALL) {
+            self.add_pair(left, name);
         }
     }
 
@@ -85,10 +77,10 @@ impl Table {
         ensures each_that_clashes { Agree lefts.names 64 (cell self.new) (λ i j. cell self.old i j || (i == j && clash rights.names (cell apart.now) (cell ends.now) i)) }
         ensures other_rows_stay { SameFrom lefts.names (cell self.new) (cell self.old) }
     {
-        for name in 0..lefts.names {
+        for name in lefts.each() {
             let row = ends.row(name);
             if apart.gathered(row, rights).meets(row, rights) {
-                self.mark(name, name);
+                self.add_pair(name, name);
             }
         }
     }

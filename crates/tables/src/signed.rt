@@ -1,17 +1,28 @@
 //! Two relations between names, one as it stands and one between reversed pairs, as tables.
-ghost use Rattle.std.specs.Prelude.{◌≡◌, ℕ, ◌<◌, Bool, false};
+ghost use Rattle.std.specs.Prelude.{◌≡◌, ℕ, Bool, false};
 ghost use Rattle.tables.specs.Least.{LeastSignedJoining};
 ghost use Rattle.tables.specs.Relations.{nothing, turned};
-ghost use Rattle.tables.specs.Signed.{AgreeBoth, BothSameFrom, joined, crossed, signed_closed, signed_product};
+ghost use Rattle.tables.specs.Signed.{AgreeBoth, BothSameFrom, joined, signed_closed, signed_product};
 ghost use Rattle.tables.specs.Tables.{cells};
 
-use crate::span::Span;
+use crate::chains::{Steps, close};
+use crate::span::{Name, Span};
 use crate::table::Table;
 
 #[derive(Drop)]
 pub struct SignedTable {
     pub along: Table,
     pub against: Table,
+}
+
+impl Steps for SignedTable {
+    ghost steps = { cells };
+
+    fn join_row(&mut self, left: Name, middle: Name) {
+        if self.along.at(left, middle) | self.against.at(left, middle) {
+            self.merge_row(left, middle);
+        }
+    }
 }
 
 impl SignedTable {
@@ -30,37 +41,11 @@ impl SignedTable {
         ensures other_rows_stay { BothSameFrom n.names (cells self.new) (cells self.old) }
         ensures is_the_least_that_joins { LeastSignedJoining n.names (cells self.old) (cells self.new) }
     {
-        for middle in 0..n.names {
-            self.join_through(middle, n);
-        }
+        close(self, n);
     }
 
-    /// Adds every pair that pairs by way of `middle` lead to. The row of `middle` comes first, since it may be reversed
-    /// into itself.
-    fn join_through(&mut self, middle: u8, n: Span)
-        requires { middle < n.names }
-        ensures joined { AgreeBoth n.names 64 (cells self.new) (crossed middle (joined middle middle (cells self.old))) }
-        ensures others { BothSameFrom n.names (cells self.new) (cells self.old) }
-    {
-        self.join_row(middle, middle);
-        for left in 0..n.names {
-            self.join_row(left, middle);
-        }
-    }
-
-    /// Adds to the row of `left` what the row of `middle` leads to from there, if anything leads to `middle`.
-    fn join_row(&mut self, left: u8, middle: u8)
-        requires { (left < 64) × (middle < 64) }
-        ensures { AgreeBoth 64 64 (cells self.new) (joined left middle (cells self.old)) }
-    {
-        if self.along.at(left, middle) | self.against.at(left, middle) {
-            self.merge_row(left, middle);
-        }
-    }
-
-    fn merge_row(&mut self, left: u8, middle: u8)
-        requires { (left < 64) × (middle < 64) }
-        ensures { AgreeBoth 64 64 (cells self.new) (joined left middle (cells self.old)) }
+    fn merge_row(&mut self, left: Name, middle: Name)
+        ensures { AgreeBoth 64 64 (cells self.new) (joined left.number middle.number (cells self.old)) }
     {
         let along = self.along.at(left, middle);
         let against = self.against.at(left, middle);

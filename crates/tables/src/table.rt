@@ -1,13 +1,11 @@
 //! A relation between names, as a table.
-ghost use Rattle.std.specs.Prelude.{◌≡◌, ℕ, ◌<◌, ◌≤◌, false, ◌&&◌, ◌||◌, ◌==◌, nat_lt};
+ghost use Rattle.std.specs.Prelude.{◌≡◌, ℕ, ◌≤◌, false, ◌&&◌, ◌||◌, ◌==◌, nat_lt};
 ghost use Rattle.tables.specs.Relations.{Agree, marked, reflexive, count};
 ghost use Rattle.tables.specs.Sets.{has};
 ghost use Rattle.tables.specs.Tables.{cell};
 
 use crate::name_set::NameSet;
-use crate::span::Span;
-
-const NAMES: u8 = 64;
+use crate::span::{Name, Span};
 
 /// A set of right names for each left name below 64.
 #[derive(Drop)]
@@ -23,16 +21,14 @@ impl Table {
         Table { rows: [none; 64] }
     }
 
-    pub(crate) fn row(&self, name: u8) -> NameSet
-        requires { name < 64 }
-        ensures { (j : ℕ) → has result j ≡ cell self.now name j }
+    pub(crate) fn row(&self, name: Name) -> NameSet
+        ensures { (j : ℕ) → has result j ≡ cell self.now name.number j }
     {
-        self.rows[name as usize]
+        self.rows[name.number as usize]
     }
 
-    pub(crate) fn at(&self, left: u8, right: u8) -> bool
-        requires { (left < 64) × (right < 64) }
-        ensures { result ≡ cell self.now left right }
+    pub(crate) fn at(&self, left: Name, right: Name) -> bool
+        ensures { result ≡ cell self.now left.number right.number }
     {
         self.row(left).contains(right)
     }
@@ -41,25 +37,32 @@ impl Table {
     pub fn read(&self, left: u8, right: u8, lefts: Span, rights: Span) -> bool
         ensures holds_within_the_spans { result ≡ (nat_lt left lefts.names && (nat_lt right rights.names && cell self.now left right)) }
     {
-        left < lefts.names && right < rights.names && self.at(left, right)
+        left < lefts.names
+            && right < rights.names
+            && self.at(Name { number: left }, Name { number: right })
     }
 
     /// Adds to the row `into` the names of a set.
-    pub(crate) fn add(&mut self, into: u8, added: NameSet)
-        requires { into < 64 }
-        ensures { Agree 64 64 (cell self.new) (λ i j. cell self.old i j || (i == into && has added j)) }
+    pub(crate) fn add(&mut self, into: Name, added: NameSet)
+        ensures { Agree 64 64 (cell self.new) (λ i j. cell self.old i j || (i == into.number && has added j)) }
     {
-        let joined = self.rows[into as usize].union(added);
-        self.rows[into as usize] = joined;
+        let joined = self.rows[into.number as usize].union(added);
+        self.rows[into.number as usize] = joined;
+    }
+
+    /// Adds one pair.
+    pub(crate) fn add_pair(&mut self, left: Name, right: Name)
+        ensures { Agree 64 64 (cell self.new) (marked left.number right.number (cell self.old)) }
+    {
+        self.add(left, NameSet::only(right));
     }
 
     /// Adds one pair, if both names are below 64.
     pub fn mark(&mut self, left: u8, right: u8)
         ensures one_pair_more { Agree 64 64 (cell self.new) (marked left right (cell self.old)) }
     {
-        if left < NAMES && right < NAMES {
-            let more = self.rows[left as usize].with(right);
-            self.rows[left as usize] = more;
+        if left < 64 && right < 64 {
+            self.add_pair(Name { number: left }, Name { number: right });
         }
     }
 
@@ -67,8 +70,8 @@ impl Table {
     pub fn reflect(&mut self, n: Span)
         ensures each_beside_itself { Agree 64 64 (cell self.new) (reflexive n.names (cell self.old)) }
     {
-        for name in 0..n.names {
-            self.mark(name, name);
+        for name in n.each() {
+            self.add_pair(name, name);
         }
     }
 
@@ -77,12 +80,6 @@ impl Table {
         ensures counts_them { result ≡ count n.names (λ k. cell self.now k k) }
         ensures at_most_the_span { result ≤ n.names }
     {
-        let mut held = 0;
-        for name in 0..n.names {
-            if self.at(name, name) {
-                held += 1;
-            }
-        }
-        held
+        n.each().filter(|name| self.at(*name, *name)).count() as u8
     }
 }

@@ -1,9 +1,7 @@
-use Rattle.tables.proofs.Digits.{some_shared}
-use Rattle.tables.proofs.Sums.{some_none}
+use Rattle.std.proofs.Common.{◌∙◌}
+use Rattle.tables.proofs.Digits.{first_below, bit_of_and}
+use Rattle.tables.proofs.Sums.{some_like}
 use Rattle.tables.proofs.name_set.NameSet.meets.Goals as goal
 
-pub returns-then-n-eq0 : goal.returns-then-n-eq0
-returns-then-n-eq0 c = rw c.if-n-eq0.true (some_none _)
-
 pub returns : goal.returns
-returns c = some_shared c.args.n.names _ _ c.args.n.few
+returns c = rw c.from.ensures (first_below c.args.n.names _ c.args.n.few ∙ some_like c.args.n.names _ _ (λ j hj. bit_of_and _ _ j))

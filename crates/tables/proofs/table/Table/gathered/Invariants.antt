@@ -1,15 +1,11 @@
-use Rattle.std.proofs.Common.{◌≡◌, ℕ, ◌-◌, ◌&&◌, ltb, leb}
+use Rattle.std.proofs.Common.{◌≡◌, ℕ, ◌&&◌, ◌||◌}
 use Rattle.tables.specs.Relations.{some}
-use Rattle.tables.specs.Sets.{has, first}
+use Rattle.tables.specs.Sets.{has}
 use Rattle.tables.specs.Tables.{cell}
 use Rattle.tables.proofs.table.Table.gathered.Given as goal
 
--- the names before `name` are done, and the others are left
+-- what is there and what is left to add are all together
 abbrev pub invariant-loop-name : goal.invariant-loop-name
 invariant-loop-name l =
-    ((j : ℕ) → has l.all j ≡ some l.n.names (λ k. (ltb k l.name && has l.initial.left k) && cell l.self k j))
-    × ((k : ℕ) → has l.left k ≡ (leb l.name k && has l.initial.left k))
-    × (l.name ≡ first l.left)
-
-abbrev pub decreases-loop-name : goal.decreases-loop-name
-decreases-loop-name l = 64 - l.name
+    (l.name-iterator.n.names ≡ l.fn.n.names)
+    × ((j : ℕ) → (has l.all j || some l.fn.n.names (λ k. has l.name-iterator.left k && cell l.self k j)) ≡ some l.fn.n.names (λ k. has l.fn.names k && cell l.self k j))
