@@ -20,14 +20,6 @@ signed_sum n E F s i j y z one two =
 pub beside_more : (x y : Bool) (i j p : ℕ) → y ≡ (x || (eqb i j && ltb i p)) → (y || (eqb i p && eqb j p)) ≡ (x || (eqb i j && ltb i (p + 1)))
 beside_more x y i j p e = rw e (grind (arith, nat_tests))
 
-pub none_added : (x e : Bool) → (x || (e && false)) ≡ x
-none_added true e = refl
-none_added false true = refl
-none_added false false = refl
-
-pub beside_none : (x e k : Bool) (i : ℕ) → x ≡ (x || (e && (ltb i 0 && k)))
-beside_none x e k i = sym (rw (le-ltb i 0 (omega arith)) (none_added x e))
-
 -- one name more beside itself, if it passes the test
 pub beside_taken : (K : ℕ → Bool) (x y : Bool) (i j p : ℕ) → K p ≡ true → y ≡ (x || (eqb i j && (ltb i p && K i))) → (y || (eqb i p && eqb j p)) ≡ (x || (eqb i j && (ltb i (p + 1) && K i)))
 beside_taken K x y i j p held e =
@@ -56,17 +48,3 @@ beside_left K x y i j p held e =
           let later : ltb i (p + 1) ≡ ltb i p = grind (arith, nat_tests) in
           rw later
     ])
-
--- one row more
-pub row_more : (K : ℕ → Bool) (i row : ℕ) (x y z : Bool) → y ≡ (x || (ltb i row && K i)) → z ≡ K row → (y || (eqb i row && z)) ≡ (x || (ltb i (row + 1) && K i))
-row_more K i row x y z e f =
-    rw (e, f)
-    (elim (cases_eq i row) [
-      | inl is ↦ rw (is, le-ltb row row (omega arith), lt-ltb row (row + 1) (omega arith), eq-eqb row row refl) (ap (λ b. b || K row) (or-false x))
-      | inr ne ↦
-          let later : ltb i (row + 1) ≡ ltb i row = grind (arith, nat_tests) in
-          rw (ne_eqb i row ne, later) (or-false (x || (ltb i row && K i)))
-    ])
-
-pub none_done : (x y : Bool) (i : ℕ) → x ≡ (x || (ltb i 0 && y))
-none_done x y i = sym (rw (le-ltb i 0 (omega arith)) (or-false x))

@@ -5,10 +5,9 @@ use Rattle.std.proofs.lemmas.Bool.{eqb-true, ne_eqb, le-ltb, lt-ltb}
 use Rattle.std.proofs.lemmas.Bool.Decides.{nat_tests}
 use Rattle.tables.specs.Least.{LeastJoining, LeastSignedJoining}
 use Rattle.tables.specs.Relations.{Rel, Agree, closed}
-use Rattle.tables.specs.Signed.{Signed, AgreeBoth, plus, joined, crossed, signed_closed}
-use Rattle.tables.proofs.Signs.{Signs, reversing, Steps, On, under}
-use Rattle.tables.proofs.Joining.{across}
-use Rattle.tables.proofs.Likeness.{Alike, across_like, joined_like}
+use Rattle.tables.specs.Signed.{Signed, AgreeBoth, plus, via, joined, crossed, signed_closed}
+use Rattle.tables.proofs.Signs.{reversing, under}
+use Rattle.tables.proofs.Likeness.{across_like, joined_like}
 use Rattle.tables.proofs.Closings.{closed_holds, closed_joins, closed_within, joined_again, signed_holds, signed_joins, signed_within}
 
 ltb_more : (j r : ℕ) → ltb j (r + 1) ≡ (ltb j r || eqb j r)
@@ -28,28 +27,25 @@ absorbed false false v h = refl
 absorbed false true false h = refl
 absorbed false true true h = sym (h refl)
 
-module _ (G : Signs) (n w : ℕ) (wide : n ≤ w) where
-  -- the rows before a are done
-  abbrev pub Done : ℕ → ℕ → Steps G → Steps G
-  Done k a R s i j = R s i j || (ltb i a && G.by R R k s i j)
+-- the rows before a are done
+abbrev pub Done : ℕ → ℕ → Signed → Signed
+Done k a R s i j = R s i j || (ltb i a && via R R k s i j)
 
-  pub done_none : (k : ℕ) (R : Steps G) → Alike G n w wide R (Done k 0 R)
-  done_none k R s i j hi hj = sym (rw (le-ltb i 0 (omega arith)) (or-false (R s i j)))
-
+module _ (n w : ℕ) (wide : n ≤ w) (k : ℕ) (hk : k < n) (R C : Signed) where
   -- the row of k takes no more from itself, and the row of a takes what the row of k adds to it
-  module _ (a k : ℕ) (ha : a < n) (hk : k < n) (R C C' : Steps G) (stable : (s : G.Sign) (j : ℕ) → j < w → G.by R R k s k j ≡ true → On G R s k j) where
-    pub done_more : Alike G n w wide C (Done k a R) → Alike G n w wide C' (λ s i j. C s i j || (eqb i a && G.by C C k s a j)) → Alike G n w wide C' (Done k (a + 1) R)
-    done_more before step s i j hi hj =
-        let own : (u : G.Sign) → C u a k ≡ R u a k = λ u. before u a k ha (omega arith) ∙ rw (le-ltb a a (omega arith)) (or-false (R u a k)) in
-        let row : (u : G.Sign) → C u k j ≡ R u k j = λ u. before u k j hk hj ∙ absorbed (R u k j) (ltb k a) (G.by R R k u k j) (stable u j hj) in
-        let added : G.by C C k s a j ≡ G.by R R k s a j = G.by_like C C R R k s a j own row in
-        step s i j hi hj ∙ ap (λ x. x || (eqb i a && G.by C C k s a j)) (before s i j hi hj)
-        ∙ rw (ltb_more i a) (add_row (R s i j) (ltb i a) (eqb i a) (G.by R R k s i j) (G.by C C k s a j)
-        (λ h. added ∙ ap (λ z. G.by R R k s z j) (sym (eqb-true i a h))))
+  pub done_more : (a : ℕ) → a < n → (C' : Signed) → ((s : Bool) (j : ℕ) → j < w → via R R k s k j ≡ true → R s k j ≡ true) →
+      AgreeBoth n w C (Done k a R) → AgreeBoth n w C' (joined a k C) → AgreeBoth n w C' (Done k (a + 1) R)
+  done_more a ha C' stable before step s i j hi hj =
+      let own : (u : Bool) → C u a k ≡ R u a k = λ u. before u a k ha (omega arith) ∙ rw (le-ltb a a (omega arith)) (or-false (R u a k)) in
+      let row : (u : Bool) → C u k j ≡ R u k j = λ u. before u k j hk hj ∙ absorbed (R u k j) (ltb k a) (via R R k u k j) (stable u j hj) in
+      let added : via C C k s a j ≡ via R R k s a j = reversing.by_like C C R R k s a j own row in
+      step s i j hi hj ∙ ap (λ x. x || (eqb i a && via C C k s a j)) (before s i j hi hj)
+      ∙ rw (ltb_more i a) (add_row (R s i j) (ltb i a) (eqb i a) (via R R k s i j) (via C C k s a j)
+      (λ h. added ∙ ap (λ z. via R R k s z j) (sym (eqb-true i a h))))
 
-  pub done_all : (k : ℕ) → k < n → (R C T : Steps G) → Alike G n w wide C (Done k n R) → Alike G n w wide R T → Alike G n w wide C (across G k T)
-  done_all k hk R C T done like s i j hi hj =
-      done s i j hi hj ∙ rw (lt-ltb i n hi) (across_like G n w wide k hk R T like s i j hi hj)
+  pub done_all : (T : Signed) → AgreeBoth n w C (Done k n R) → AgreeBoth n w R T → AgreeBoth n w C (crossed k T)
+  done_all T done like s i j hi hj =
+      done s i j hi hj ∙ rw (lt-ltb i n hi) (across_like reversing n w wide k hk R T like s i j hi hj)
 
 -- a row that is not the one added to stays
 pub row_stays : (x y z : Bool) (i a : ℕ) → (i ≡ a → ⊥) → z ≡ (x || (eqb i a && y)) → z ≡ x
@@ -64,7 +60,7 @@ least_joining n R C like = record {
 }
 
 -- a relation beside a reversed one
-pub signed_stable : (n w : ℕ) (wide : n ≤ w) (k : ℕ) → k < n → (T R : Signed) → AgreeBoth n w R (joined k k T) → (s : Bool) (j : ℕ) → j < w → reversing.by R R k s k j ≡ true → On reversing R s k j
+pub signed_stable : (n w : ℕ) (wide : n ≤ w) (k : ℕ) → k < n → (T R : Signed) → AgreeBoth n w R (joined k k T) → (s : Bool) (j : ℕ) → j < w → via R R k s k j ≡ true → R s k j ≡ true
 signed_stable n w wide k hk T R like s j hj h =
     let F = joined k k T in
     let v = reversing.by_parts F F k s k j (sym (reversing.by_like R R F F k s k j (λ t. like t k k hk (omega arith)) (λ t. like t k j hk hj)) ∙ h) in

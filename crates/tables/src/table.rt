@@ -46,8 +46,8 @@ impl Table {
     pub(crate) fn add(&mut self, into: Name, added: NameSet)
         ensures { Agree 64 64 (cell self.new) (λ i j. cell self.old i j || (i == into.number && has added j)) }
     {
-        let joined = self.rows[into.number as usize].union(added);
-        self.rows[into.number as usize] = joined;
+        let row = &mut self.rows[into.number as usize];
+        *row = row.union(added);
     }
 
     /// Adds one pair.
