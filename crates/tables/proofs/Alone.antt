@@ -1,15 +1,13 @@
 -- A relation alone, with nothing between reversed pairs, closes as it does by itself.
 use Rattle.std.proofs.Common.{◌≡◌, ℕ, zero, suc, Bool, true, false, ◌&&◌, ◌||◌, eqb, refl, ap, ◌∙◌, inl, inr}
-use mathlib.Core.Bool.{or-false}
+use Rattle.std.proofs.Math.Bool.{or-false, and-false}
 use Rattle.std.proofs.lemmas.Bool.{cases_eq, eq-eqb, ne_eqb}
 use Rattle.tables.specs.Relations.{Rel, through, closed}
 use Rattle.tables.specs.Signed.{Signed, alone, joined, crossed, signed_closed}
 use Rattle.tables.proofs.Signs.{reversing}
 
 pub nothing_beside : (x y : Bool) → (x && ((y && false) || false)) ≡ false
-nothing_beside true true = refl
-nothing_beside true false = refl
-nothing_beside false y = refl
+nothing_beside x y = rw (and-false y) (and-false x)
 
 module _ (k : ℕ) (R : Rel) where
   -- the row of k takes nothing from itself

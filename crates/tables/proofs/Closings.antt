@@ -18,7 +18,7 @@ closed_holds (suc k) R a b h = across_old plain k (steps (closed k R)) tt a b (c
 
 pub closed_joins : (n : ℕ) (R : Rel) → JoinsBelow plain n (steps (closed n R))
 unfolding closed
-closed_joins zero R s u a m b h left right = let no_name : ⊥ = omega arith in elim no_name [ ]
+closed_joins zero R s u a m b h left right = absurd (omega arith)
 closed_joins (suc k) R s u a m b h left right = across_joins plain k (steps (closed k R)) (λ s u b g h. h) (closed_joins k R) s u a m b h left right
 
 pub closed_within : (P : ℕ → ℕ → Type 0) (n : ℕ) → ((a m b : ℕ) → m < n → P a m → P m b → P a b) → (R : Rel) → ((a b : ℕ) → R a b ≡ true → P a b) → (a b : ℕ) → closed n R a b ≡ true → P a b
@@ -78,7 +78,7 @@ module _ (k : ℕ) (T : Signed) where
               let far = under reversing T k b (reversing.assoc v.0 s u) (joins (plus v.0 s) u k m b less v.2 y) in
               subst (λ z. On reversing F (plus s u) z b) (sym x.0) (f_new v.0 (plus s u) b v.1 far)
         ]
-        | inr y ↦ let no_way : ⊥ = omega (arith, y.0) in elim no_way [ ]
+        | inr y ↦ absurd (omega (arith, y.0))
       ]
 
   joined_within : (P : Bool → ℕ → ℕ → Type 0) → ((s u : Bool) (a b : ℕ) → P s a k → P u k b → P (plus s u) a b) →
@@ -96,7 +96,7 @@ signed_holds (suc k) E s a b h = across_old reversing k (joined k k (signed_clos
 
 pub signed_joins : (n : ℕ) (E : Signed) → JoinsBelow reversing n (signed_closed n E)
 unfolding signed_closed
-signed_joins zero E s u a m b h left right = let no_name : ⊥ = omega arith in elim no_name [ ]
+signed_joins zero E s u a m b h left right = absurd (omega arith)
 signed_joins (suc k) E s u a m b h left right = across_joins reversing k (joined k k (signed_closed k E)) (joined_again k (signed_closed k E)) (joined_joins k (signed_closed k E) (signed_joins k E)) s u a m b h left right
 
 pub signed_within : (P : Bool → ℕ → ℕ → Type 0) (n : ℕ) → ((s u : Bool) (a m b : ℕ) → m < n → P s a m → P u m b → P (plus s u) a b) →

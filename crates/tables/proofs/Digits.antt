@@ -1,88 +1,66 @@
 -- The binary digits of a set.
-use Rattle.std.proofs.Common.{◌≡◌, ℕ, zero, suc, ◌+◌, ◌-◌, ◌*◌, ◌/◌, ◌%◌, ◌^◌, ◌<◌, ◌≤◌, Bool, true, false, ◌&&◌, ◌||◌, eqb, ltb, ◌⊎◌, sym, refl, ap, ◌∙◌, inl, inr, one-mul, div-one, one-add, arith}
-use native.Mathlib.Nat.{zero-div, div-eq_of_lt}
-use lib.Bits.{bit_and, bit_or, shifted_even}
+use Rattle.std.proofs.Common.{◌≡◌, ℕ, zero, suc, ◌+◌, ◌-◌, ◌*◌, ◌/◌, ◌%◌, ◌^◌, ◌<◌, ◌≤◌, Bool, true, false, ◌&&◌, ◌||◌, eqb, ltb, sym, refl, ap, ◌∙◌, inl, inr, arith}
+use Rattle.std.proofs.Math.Bool.{and-false, and_self}
+use lib.Bits.{bit_and, bit_or}
 use lib.Count.{count_trailing_zeros, trailing_of_zero, under}
-use Rattle.std.proofs.lemmas.Nat.{and_le_r, or_shr, and_shr, or_mod, and_mod, and_mask, one_shl, shl-shr, shr-shr, pow-add, pow_below, mod_below, div-add-mod'}
+use Rattle.std.proofs.lemmas.Nat.{and_le_r, one_shl, mod_below, div-add-mod'}
+use Rattle.std.proofs.lemmas.Nat.Bits.{bit_at-zero, bit_at-lt, bit_at_or, bit_at_and, bit_at-pow_same, bit_at-pow_other, shr_and_one, bit_at_lowest, bit_at-suc}
 use Rattle.std.proofs.lemmas.Bool.{cases_lt, cases_eq, cases_order, eq-eqb, ne_eqb, lt-ltb, le-ltb}
+use Rattle.std.proofs.lemmas.Bool.Decides.{nat_tests}
 use Rattle.tables.specs.Relations.{some}
 use Rattle.tables.specs.Sets.{bit}
 use Rattle.tables.proofs.Sums.{some_made, some_never}
 
 pub bit_none : (j : ℕ) → bit 0 j ≡ false
 unfolding bit
-bit_none j = rw (zero-div (2 ^ j))
-
-two : (p : ℕ) → p < 2 → (p ≡ 0) ⊎ (p ≡ 1)
-two p h = elim (cases_eq p 0) [ inl e ↦ inl e | inr ne ↦ inr (omega arith) ]
+bit_none j = rw (bit_at-zero j)
 
 pub bit_of_or : (x y j : ℕ) → bit (bit_or x y) j ≡ (bit x j || bit y j)
 unfolding bit
-bit_of_or x y j = rw (or_shr x y j, or_mod (x / 2 ^ j) (y / 2 ^ j) 1) (digit _ _ (mod_below (x / 2 ^ j) 2 (omega arith)) (mod_below (y / 2 ^ j) 2 (omega arith)))
-  where
-    digit : (p q : ℕ) → p < 2 → q < 2 → eqb (bit_or p q) 1 ≡ (eqb p 1 || eqb q 1)
-    digit p q hp hq =
-        elim (two p hp) [
-          | inl e ↦ elim (two q hq) [ inl f ↦ rw (e, f) | inr f ↦ rw (e, f) ]
-          | inr e ↦ elim (two q hq) [ inl f ↦ rw (e, f) | inr f ↦ rw (e, f) ]
-        ]
+bit_of_or x y j = rw (bit_at_or x y j) (grind (arith, nat_tests, bit_at-lt x j, bit_at-lt y j))
 
 pub bit_of_and : (x y j : ℕ) → bit (bit_and x y) j ≡ (bit x j && bit y j)
 unfolding bit
-bit_of_and x y j = rw (and_shr x y j, and_mod (x / 2 ^ j) (y / 2 ^ j) 1) (digit _ _ (mod_below (x / 2 ^ j) 2 (omega arith)) (mod_below (y / 2 ^ j) 2 (omega arith)))
-  where
-    digit : (p q : ℕ) → p < 2 → q < 2 → eqb (bit_and p q) 1 ≡ (eqb p 1 && eqb q 1)
-    digit p q hp hq =
-        elim (two p hp) [
-          | inl e ↦ rw e
-          | inr e ↦ elim (two q hq) [ inl f ↦ rw (e, f) | inr f ↦ rw (e, f) ]
-        ]
+bit_of_and x y j = rw (bit_at_and x y j) (grind (arith, nat_tests, bit_at-lt x j, bit_at-lt y j))
 
 -- a power of two has one digit
-pub bit_pow : (k j : ℕ) → bit (2 ^ k) j ≡ eqb j k
+bit_pow : (k j : ℕ) → bit (2 ^ k) j ≡ eqb j k
 unfolding bit
 bit_pow k j =
-    elim (cases_order j k) [
-      | inl e ↦ rw (e, same k, eq-eqb k k refl)
-      | inr (inl below) ↦ rw (ne_eqb j k (λ e. omega arith), lower (k - suc j) (omega arith))
-      | inr (inr above) ↦ rw (ne_eqb j k (λ e. omega arith), div-eq_of_lt (pow_below k j above))
+    elim (cases_eq j k) [
+      | inl e ↦ rw (e, bit_at-pow_same k, eq-eqb k k refl)
+      | inr ne ↦ rw (bit_at-pow_other k j ne, ne_eqb j k ne)
     ]
-  where
-    same : (k : ℕ) → 2 ^ k / 2 ^ k ≡ 1
-    same k = let e : 1 * 2 ^ k / 2 ^ k ≡ 1 = shl-shr 1 k in rw one-mul at e
-
-    lower : (d : ℕ) → k ≡ suc d + j → 2 ^ k / 2 ^ j % 2 ≡ 0
-    lower d e = rw (e, pow-add 2 (suc d) j, shl-shr (2 ^ suc d) j) (let z : 1 * 2 ^ suc d % 2 ≡ 0 = shifted_even 1 d in rw one-mul at z)
 
 pub bit_only : (k j : ℕ) → k < 64 → bit ((1 * 2 ^ k) % 2 ^ 64) j ≡ eqb j k
 bit_only k j h = rw (one_shl k 64 h) (bit_pow k j)
 
 pub bit_read : (x k : ℕ) → eqb (bit_and (x / 2 ^ k) 1) 1 ≡ bit x k
 unfolding bit
-bit_read x k = rw (and_mask (x / 2 ^ k) 1)
+bit_read x k = rw (shr_and_one x k)
 
 bit_lowest : (x : ℕ) → bit x 0 ≡ eqb (x % 2) 1
 unfolding bit
-bit_lowest x = ap (λ n. eqb (n % 2) 1) (div-one x)
+bit_lowest x = rw (bit_at_lowest x)
 
 bit_above : (x k : ℕ) → bit x (suc k) ≡ bit (x / 2) k
 unfolding bit
-bit_above x k = ap (λ n. eqb (n % 2) 1) (sym (shr-shr x 1 k ∙ ap (λ e. x / 2 ^ e) (one-add k)))
+bit_above x k = rw (bit_at-suc x k)
 
 -- below the lowest digit that is 1 there are zeros
 pub trailing_none : (w x k : ℕ) → k < count_trailing_zeros w x → bit x k ≡ false
 unfolding count_trailing_zeros
-trailing_none zero x k h = let no_such : ⊥ = omega arith in elim no_such [ ]
+trailing_none zero x k h = absurd (omega arith)
 trailing_none (suc w) x k h = go (trailing_none w (x / 2)) (x % 2) refl k h
   where
     go : ((k : ℕ) → k < count_trailing_zeros w (x / 2) → bit (x / 2) k ≡ false) → (d : ℕ) → x % 2 ≡ d → (k : ℕ) → k < under d (count_trailing_zeros w (x / 2)) → bit x k ≡ false
     go rest zero e zero h = bit_lowest x ∙ rw e
     go rest zero e (suc k) h = bit_above x k ∙ rest k (omega arith)
-    go rest (suc d) e k h = let no_such : ⊥ = omega arith in elim no_such [ ]
+    go rest (suc d) e k h = absurd (omega arith)
 
 pub trailing_one : (w x : ℕ) → count_trailing_zeros w x < w → bit x (count_trailing_zeros w x) ≡ true
 unfolding count_trailing_zeros
-trailing_one zero x h = let no_such : ⊥ = omega arith in elim no_such [ ]
+trailing_one zero x h = absurd (omega arith)
 trailing_one (suc w) x h = go (trailing_one w (x / 2)) (x % 2) refl (mod_below x 2 (omega arith)) h
   where
     go : (count_trailing_zeros w (x / 2) < w → bit (x / 2) (count_trailing_zeros w (x / 2)) ≡ true) → (d : ℕ) → x % 2 ≡ d → x % 2 < 2 → under d (count_trailing_zeros w (x / 2)) < suc w → bit x (under d (count_trailing_zeros w (x / 2))) ≡ true
@@ -92,7 +70,7 @@ trailing_one (suc w) x h = go (trailing_one w (x / 2)) (x % 2) refl (mod_below x
 pub nonzero : (w x : ℕ) → count_trailing_zeros w x < w → 0 < x
 nonzero w x h =
     elim (cases_eq x 0) [
-      | inl e ↦ let all : count_trailing_zeros w x ≡ w = ap (count_trailing_zeros w) e ∙ trailing_of_zero w in let no_such : ⊥ = omega arith in elim no_such [ ]
+      | inl e ↦ let all : count_trailing_zeros w x ≡ w = ap (count_trailing_zeros w) e ∙ trailing_of_zero w in absurd (omega arith)
       | inr ne ↦ omega arith
     ]
 
@@ -109,7 +87,7 @@ low_odd x e = omega (arith, e, div-add-mod' x 2, div-add-mod' (x - 1) 2, mod_bel
 -- one less than a number: the lowest digit that is 1 becomes 0, and those above it stay
 lower_at : (w x : ℕ) → count_trailing_zeros w x < w → bit (x - 1) (count_trailing_zeros w x) ≡ false
 unfolding count_trailing_zeros
-lower_at zero x h = let no_such : ⊥ = omega arith in elim no_such [ ]
+lower_at zero x h = absurd (omega arith)
 lower_at (suc w) x h = go (lower_at w (x / 2)) (x % 2) refl (mod_below x 2 (omega arith)) h
   where
     go : (count_trailing_zeros w (x / 2) < w → bit (x / 2 - 1) (count_trailing_zeros w (x / 2)) ≡ false) → (d : ℕ) → x % 2 ≡ d → x % 2 < 2 → under d (count_trailing_zeros w (x / 2)) < suc w → bit (x - 1) (under d (count_trailing_zeros w (x / 2))) ≡ false
@@ -121,8 +99,8 @@ lower_at (suc w) x h = go (lower_at w (x / 2)) (x % 2) refl (mod_below x 2 (omeg
 
 lower_above : (w x j : ℕ) → count_trailing_zeros w x < w → count_trailing_zeros w x < j → bit (x - 1) j ≡ bit x j
 unfolding count_trailing_zeros
-lower_above zero x j h k = let no_such : ⊥ = omega arith in elim no_such [ ]
-lower_above (suc w) x zero h k = let no_such : ⊥ = omega arith in elim no_such [ ]
+lower_above zero x j h k = absurd (omega arith)
+lower_above (suc w) x zero h k = absurd (omega arith)
 lower_above (suc w) x (suc j) h k = go (lower_above w (x / 2) j) (x % 2) refl (mod_below x 2 (omega arith)) h k
   where
     go : (count_trailing_zeros w (x / 2) < w → count_trailing_zeros w (x / 2) < j → bit (x / 2 - 1) j ≡ bit (x / 2) j) → (d : ℕ) → x % 2 ≡ d → x % 2 < 2 → under d (count_trailing_zeros w (x / 2)) < suc w → under d (count_trailing_zeros w (x / 2)) < suc j → bit (x - 1) (suc j) ≡ bit x (suc j)
@@ -138,18 +116,10 @@ bit_dropped x j h =
     let t = count_trailing_zeros 64 x in
     bit_of_and x (x - 1) j ∙
     elim (cases_order j t) [
-      | inl e ↦ rw (e, le-ltb t t (omega arith), lower_at 64 x h) (none (bit x t))
-      | inr (inl below) ↦ rw (trailing_none 64 x j below) (sym (none (ltb t j)))
-      | inr (inr above) ↦ rw (lt-ltb t j above, lower_above 64 x j h above) (both (bit x j))
+      | inl e ↦ rw (e, le-ltb t t (omega arith), lower_at 64 x h) (and-false (bit x t))
+      | inr (inl below) ↦ rw (trailing_none 64 x j below) (sym (and-false (ltb t j)))
+      | inr (inr above) ↦ rw (lt-ltb t j above, lower_above 64 x j h above) (and_self (bit x j))
     ]
-  where
-    none : (x : Bool) → (x && false) ≡ false
-    none true = refl
-    none false = refl
-
-    both : (x : Bool) → (x && x) ≡ x
-    both true = refl
-    both false = refl
 
 -- the lowest digit that is 1 stands below n exactly when some digit below n is 1
 pub first_below : (n x : ℕ) → n ≤ 64 → ltb (count_trailing_zeros 64 x) n ≡ some n (bit x)

@@ -1,6 +1,7 @@
 -- Steps between names with a sign each, which adds up along a chain: one scheme for relations as they stand, where there is
 -- one sign, and for relations beside reversed ones, where there are two. Offered to the crates above.
 use Rattle.std.proofs.Common.{◌≡◌, ℕ, Bool, true, false, not, ◌&&◌, sym, refl, ap, ◌∙◌, subst, inl, inr}
+use Rattle.std.proofs.Math.Bool.{not-not}
 use Rattle.std.proofs.lemmas.Bool.{and_parts, or_cases, or_left, or_right}
 use Rattle.tables.specs.Relations.{Rel}
 use Rattle.tables.specs.Signed.{plus, via}
@@ -36,10 +37,6 @@ plain = record {
   by_like = λ E F E' F' k s a b e f. rw (e s, f s);
 }
 
-not_not : (s : Bool) → not (not s) ≡ s
-not_not false = refl
-not_not true = refl
-
 pub plus_comm : (s t : Bool) → plus s t ≡ plus t s
 plus_comm false false = refl
 plus_comm false true = refl
@@ -49,11 +46,11 @@ plus_comm true true = refl
 pub plus_assoc : (s t u : Bool) → plus (plus s t) u ≡ plus s (plus t u)
 plus_assoc false t u = refl
 plus_assoc true false u = refl
-plus_assoc true true u = sym (not_not u)
+plus_assoc true true u = sym (not-not u)
 
 pub plus_twice : (t s : Bool) → plus t (plus t s) ≡ s
 plus_twice false s = refl
-plus_twice true s = not_not s
+plus_twice true s = not-not s
 
 pub via_parts : (E F : Bool → Rel) (k : ℕ) (s : Bool) (a b : ℕ) → via E F k s a b ≡ true → (t : Bool) × (E t a k ≡ true) × (F (plus t s) k b ≡ true)
 via_parts E F k s a b h =

@@ -1,7 +1,7 @@
 -- Laws of tests over the numbers below a count, offered to the crates above.
 use Rattle.std.proofs.Common.{◌≡◌, ℕ, zero, suc, ◌<◌, Bool, true, false, ◌&&◌, ◌||◌, eqb, sym, refl, ap, ◌∙◌, inl, inr, arith}
-use mathlib.Core.Bool.{or-false}
-use Rattle.std.proofs.lemmas.Bool.{or_cases, or_left, or_right, cases_lt, cases_eq, both_ways, eq-eqb, ne_eqb}
+use Rattle.std.proofs.Math.Bool.{or-false, or_assoc, or_comm}
+use Rattle.std.proofs.lemmas.Bool.{or_cases, or_left, or_right, cases_lt, cases_eq, eq-eqb, ne_eqb}
 use Rattle.tables.specs.Relations.{some, count}
 
 pub and_both : (x y : Bool) → x ≡ true → y ≡ true → (x && y) ≡ true
@@ -9,7 +9,7 @@ and_both x y p q = rw (p, q)
 
 pub some_made : (n : ℕ) (test : ℕ → Bool) (k : ℕ) → k < n → test k ≡ true → some n test ≡ true
 unfolding some
-some_made zero test k h on = let no_name : ⊥ = omega arith in elim no_name [ ]
+some_made zero test k h on = absurd (omega arith)
 some_made (suc n) test k h on =
     elim (cases_lt k n) [
       | inl less ↦ or_right (test n) (some n test) (some_made n test k less on)
@@ -18,7 +18,7 @@ some_made (suc n) test k h on =
 
 pub some_found : (n : ℕ) (test : ℕ → Bool) → some n test ≡ true → (k : ℕ) × (k < n) × (test k ≡ true)
 unfolding some
-some_found zero test h = elim (both_ways false refl h) [ ]
+some_found zero test h = cc
 some_found (suc n) test h =
     elim (or_cases (test n) (some n test) h) [
       | inl l ↦ (n, omega arith, l)
@@ -38,7 +38,7 @@ some_never (suc n) test none = some_never n test (λ k h. none k (omega arith)) 
 -- one number alone
 pub some_one : (n a : ℕ) (test : ℕ → Bool) → a < n → some n (λ k. eqb k a && test k) ≡ test a
 unfolding some
-some_one zero a test h = let no_such : ⊥ = omega arith in elim no_such [ ]
+some_one zero a test h = absurd (omega arith)
 some_one (suc n) a test h =
     elim (cases_eq n a) [
       | inl e ↦ rw (e, eq-eqb a a refl) (ap (λ x. test a || x) (sym (some_never a (λ k. eqb k a && test k) (λ k hk. rw (ne_eqb k a (λ z. omega arith))))) ∙ or-false (test a))
@@ -52,9 +52,7 @@ some_or (suc n) f g = swap (f n) (some n f) (g n) (some n g) ∙ ap (λ b. (f n 
   where
     swap : (a b c d : Bool) → ((a || b) || (c || d)) ≡ ((a || c) || (b || d))
     swap true b c d = refl
-    swap false true true d = refl
-    swap false true false d = refl
-    swap false false c d = refl
+    swap false b c d = sym (or_assoc b c d) ∙ ap (λ e. e || d) (or_comm b c) ∙ or_assoc c b d
 
 pub count_like : (n : ℕ) (f g : ℕ → Bool) → ((k : ℕ) → k < n → f k ≡ g k) → count n f ≡ count n g
 unfolding count

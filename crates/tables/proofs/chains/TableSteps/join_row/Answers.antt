@@ -1,5 +1,5 @@
 use Rattle.std.proofs.Common.{◌≡◌, true, false, ◌&&◌, ◌||◌, eqb, sym, ap, ◌∙◌}
-use mathlib.Core.Bool.{or-false}
+use Rattle.std.proofs.Math.Bool.{or-false}
 use Rattle.tables.specs.Tables.{cell}
 use Rattle.tables.proofs.Alone.{nothing_beside}
 use Rattle.tables.proofs.chains.TableSteps.join_row.Goals as goal

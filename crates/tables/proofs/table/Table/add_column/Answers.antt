@@ -1,5 +1,5 @@
 use Rattle.std.proofs.Common.{◌≡◌, false, ◌&&◌, ◌||◌, eqb, sym, ap, ◌∙◌, arith}
-use mathlib.Core.Bool.{or-false}
+use Rattle.std.proofs.Math.Bool.{or-false}
 use Rattle.tables.specs.Sets.{has}
 use Rattle.tables.specs.Tables.{cell}
 use Rattle.tables.proofs.Digits.{trailing_none}

@@ -1,5 +1,5 @@
 use Rattle.std.proofs.Common.{ℕ, Bool, ◌&&◌, ◌||◌, sym, ap, ◌∙◌, arith}
-use mathlib.Core.Bool.{or-false}
+use Rattle.std.proofs.Math.Bool.{or-false}
 use Rattle.tables.specs.Relations.{some}
 use Rattle.tables.specs.Sets.{has}
 use Rattle.tables.specs.Tables.{cell}
