@@ -1,11 +1,11 @@
 -- The binary digits of a set.
-use Rattle.std.proofs.Common.{◌≡◌, ℕ, zero, suc, ◌+◌, ◌-◌, ◌*◌, ◌/◌, ◌%◌, ◌^◌, ◌<◌, ◌≤◌, Bool, true, false, ◌&&◌, ◌||◌, eqb, ltb, sym, refl, ap, ◌∙◌, inl, inr, arith}
+use Rattle.std.proofs.Common.{◌≡◌, ℕ, zero, suc, ◌-◌, ◌*◌, ◌/◌, ◌%◌, ◌^◌, ◌<◌, ◌≤◌, true, false, ◌&&◌, ◌||◌, eqb, ltb, sym, refl, ap, ◌∙◌, inl, inr, arith}
 use Rattle.std.proofs.Math.Bool.{and-false, and_self}
 use lib.Bits.{bit_and, bit_or}
 use lib.Count.{count_trailing_zeros, trailing_of_zero, under}
 use Rattle.std.proofs.lemmas.Nat.{and_le_r, one_shl, mod_below, div-add-mod'}
 use Rattle.std.proofs.lemmas.Nat.Bits.{bit_at-zero, bit_at-lt, bit_at_or, bit_at_and, bit_at-pow_same, bit_at-pow_other, shr_and_one, bit_at_lowest, bit_at-suc}
-use Rattle.std.proofs.lemmas.Bool.{cases_lt, cases_eq, cases_order, eq-eqb, ne_eqb, lt-ltb, le-ltb}
+use Rattle.std.proofs.lemmas.Bool.{cases_lt, cases_eq, eq-eqb, ne_eqb, lt-ltb, le-ltb}
 use Rattle.std.proofs.lemmas.Bool.Decides.{nat_tests}
 use Rattle.tables.specs.Relations.{some}
 use Rattle.tables.specs.Sets.{bit}
@@ -84,42 +84,27 @@ half_odd x e = omega (arith, e, div-add-mod' x 2, div-add-mod' (x - 1) 2, mod_be
 low_odd : (x : ℕ) → x % 2 ≡ 1 → (x - 1) % 2 ≡ 0
 low_odd x e = omega (arith, e, div-add-mod' x 2, div-add-mod' (x - 1) 2, mod_below (x - 1) 2 (omega arith))
 
--- one less than a number: the lowest digit that is 1 becomes 0, and those above it stay
-lower_at : (w x : ℕ) → count_trailing_zeros w x < w → bit (x - 1) (count_trailing_zeros w x) ≡ false
-unfolding count_trailing_zeros
-lower_at zero x h = absurd (omega arith)
-lower_at (suc w) x h = go (lower_at w (x / 2)) (x % 2) refl (mod_below x 2 (omega arith)) h
-  where
-    go : (count_trailing_zeros w (x / 2) < w → bit (x / 2 - 1) (count_trailing_zeros w (x / 2)) ≡ false) → (d : ℕ) → x % 2 ≡ d → x % 2 < 2 → under d (count_trailing_zeros w (x / 2)) < suc w → bit (x - 1) (under d (count_trailing_zeros w (x / 2))) ≡ false
-    go rest zero e small h =
-        let less : count_trailing_zeros w (x / 2) < w = omega arith in
-        let pos : 0 < x = omega (arith, nonzero w (x / 2) less, div-add-mod' x 2) in
-        bit_above (x - 1) (count_trailing_zeros w (x / 2)) ∙ ap (λ n. bit n (count_trailing_zeros w (x / 2))) (half_even x pos e) ∙ rest less
-    go rest (suc d) e small h = bit_lowest (x - 1) ∙ ap (λ n. eqb n 1) (low_odd x (omega arith))
+ltb-suc : (a b : ℕ) → ltb (suc a) (suc b) ≡ ltb a b
+ltb-suc a b = grind (arith, nat_tests)
 
-lower_above : (w x j : ℕ) → count_trailing_zeros w x < w → count_trailing_zeros w x < j → bit (x - 1) j ≡ bit x j
+-- a number and one less share no digit up to the lowest that is 1, and those above it
+lowered : (w x j : ℕ) → count_trailing_zeros w x < w → (bit x j && bit (x - 1) j) ≡ (ltb (count_trailing_zeros w x) j && bit x j)
 unfolding count_trailing_zeros
-lower_above zero x j h k = absurd (omega arith)
-lower_above (suc w) x zero h k = absurd (omega arith)
-lower_above (suc w) x (suc j) h k = go (lower_above w (x / 2) j) (x % 2) refl (mod_below x 2 (omega arith)) h k
+lowered zero x j h = absurd (omega arith)
+lowered (suc w) x j h = go (lowered w (x / 2)) (x % 2) refl (mod_below x 2 (omega arith)) j h
   where
-    go : (count_trailing_zeros w (x / 2) < w → count_trailing_zeros w (x / 2) < j → bit (x / 2 - 1) j ≡ bit (x / 2) j) → (d : ℕ) → x % 2 ≡ d → x % 2 < 2 → under d (count_trailing_zeros w (x / 2)) < suc w → under d (count_trailing_zeros w (x / 2)) < suc j → bit (x - 1) (suc j) ≡ bit x (suc j)
-    go rest zero e small h k =
-        let less : count_trailing_zeros w (x / 2) < w = omega arith in
-        let pos : 0 < x = omega (arith, nonzero w (x / 2) less, div-add-mod' x 2) in
-        bit_above (x - 1) j ∙ ap (λ n. bit n j) (half_even x pos e) ∙ rest less (omega arith) ∙ sym (bit_above x j)
-    go rest (suc d) e small h k = bit_above (x - 1) j ∙ ap (λ n. bit n j) (half_odd x (omega arith)) ∙ sym (bit_above x j)
+    go : ((j : ℕ) → count_trailing_zeros w (x / 2) < w → (bit (x / 2) j && bit (x / 2 - 1) j) ≡ (ltb (count_trailing_zeros w (x / 2)) j && bit (x / 2) j)) →
+        (d : ℕ) → x % 2 ≡ d → x % 2 < 2 → (j : ℕ) → under d (count_trailing_zeros w (x / 2)) < suc w → (bit x j && bit (x - 1) j) ≡ (ltb (under d (count_trailing_zeros w (x / 2))) j && bit x j)
+    go rest zero e small zero h = rw (bit_lowest x, e) (sym (and-false (ltb (suc (count_trailing_zeros w (x / 2))) 0)))
+    go rest zero e small (suc j) h =
+        let pos : 0 < x = omega (arith, nonzero w (x / 2) (omega arith), div-add-mod' x 2) in
+        rw (bit_above x j, bit_above (x - 1) j, half_even x pos e) (rest j (omega arith) ∙ ap (λ b. b && bit (x / 2) j) (sym (ltb-suc (count_trailing_zeros w (x / 2)) j)))
+    go rest (suc d) e small zero h = rw (bit_lowest (x - 1), low_odd x (omega arith)) (and-false (bit x 0))
+    go rest (suc d) e small (suc j) h = rw (bit_above x j, bit_above (x - 1) j, half_odd x (omega arith), lt-ltb 0 (suc j) (omega arith)) (and_self (bit (x / 2) j))
 
--- a number and one less share the digits above the lowest that is 1
+-- a number without the lowest digit that is 1
 pub bit_dropped : (x j : ℕ) → count_trailing_zeros 64 x < 64 → bit (bit_and x (x - 1)) j ≡ (ltb (count_trailing_zeros 64 x) j && bit x j)
-bit_dropped x j h =
-    let t = count_trailing_zeros 64 x in
-    bit_of_and x (x - 1) j ∙
-    elim (cases_order j t) [
-      | inl e ↦ rw (e, le-ltb t t (omega arith), lower_at 64 x h) (and-false (bit x t))
-      | inr (inl below) ↦ rw (trailing_none 64 x j below) (sym (and-false (ltb t j)))
-      | inr (inr above) ↦ rw (lt-ltb t j above, lower_above 64 x j h above) (and_self (bit x j))
-    ]
+bit_dropped x j h = bit_of_and x (x - 1) j ∙ lowered 64 x j h
 
 -- the lowest digit that is 1 stands below n exactly when some digit below n is 1
 pub first_below : (n x : ℕ) → n ≤ 64 → ltb (count_trailing_zeros 64 x) n ≡ some n (bit x)
