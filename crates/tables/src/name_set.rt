@@ -13,6 +13,7 @@ pub(crate) struct NameSet {
 }
 
 impl NameSet {
+    #[tactic(auto, using(crate::proofs::Digits::bit_none))]
     pub(crate) fn none() -> NameSet
         ensures { (j : ℕ) → has result j ≡ false }
     {
@@ -20,6 +21,7 @@ impl NameSet {
     }
 
     /// One name alone.
+    #[tactic(auto, using(crate::proofs::Digits::bit_only))]
     pub(crate) fn only(name: Name) -> NameSet
         ensures { (j : ℕ) → has result j ≡ (j == name.number) }
     {
@@ -28,12 +30,14 @@ impl NameSet {
         }
     }
 
+    #[tactic(auto, using(crate::proofs::Digits::bit_read))]
     pub(crate) fn contains(self, name: Name) -> bool
         ensures { result ≡ has self name.number }
     {
         (self.bits >> name.number) & 1 == 1
     }
 
+    #[tactic(auto, using(crate::proofs::Digits::bit_of_or))]
     pub(crate) fn union(self, other: NameSet) -> NameSet
         ensures { (j : ℕ) → has result j ≡ (has self j || has other j) }
     {

@@ -21,6 +21,7 @@ impl Table {
         Table { rows: [none; 64] }
     }
 
+    #[tactic(auto, unfolding(crate::specs::Tables::cell))]
     pub(crate) fn row(&self, name: Name) -> NameSet
         ensures { (j : ℕ) → has result j ≡ cell self.now name.number j }
     {
@@ -43,6 +44,7 @@ impl Table {
     }
 
     /// Adds to the row `into` the names of a set.
+    #[tactic(auto, unfolding(crate::specs::Tables::cell))]
     pub(crate) fn add(&mut self, into: Name, added: NameSet)
         ensures { Agree 64 64 (cell self.new) (λ i j. cell self.old i j || (i == into.number && has added j)) }
     {
