@@ -9,7 +9,7 @@ use Rattle.std.proofs.lemmas.Bool.{cases_lt, cases_eq, eq-eqb, ne_eqb, lt-ltb, l
 use Rattle.std.proofs.lemmas.Bool.Decides.{nat_tests}
 use Rattle.tables.specs.Relations.{some}
 use Rattle.tables.specs.Sets.{bit}
-use Rattle.tables.proofs.Sums.{some_made, some_never}
+use Rattle.tables.proofs.Sums.{some_made, some_never, some_like}
 
 pub bit_none : (j : ℕ) → bit 0 j ≡ false
 unfolding bit
@@ -19,7 +19,7 @@ pub bit_of_or : (x y j : ℕ) → bit (bit_or x y) j ≡ (bit x j || bit y j)
 unfolding bit
 bit_of_or x y j = rw (bit_at_or x y j) (grind (arith, nat_tests, bit_at-lt x j, bit_at-lt y j))
 
-pub bit_of_and : (x y j : ℕ) → bit (bit_and x y) j ≡ (bit x j && bit y j)
+bit_of_and : (x y j : ℕ) → bit (bit_and x y) j ≡ (bit x j && bit y j)
 unfolding bit
 bit_of_and x y j = rw (bit_at_and x y j) (grind (arith, nat_tests, bit_at-lt x j, bit_at-lt y j))
 
@@ -107,13 +107,17 @@ pub bit_dropped : (x j : ℕ) → count_trailing_zeros 64 x < 64 → bit (bit_an
 bit_dropped x j h = bit_of_and x (x - 1) j ∙ lowered 64 x j h
 
 -- the lowest digit that is 1 stands below n exactly when some digit below n is 1
-pub first_below : (n x : ℕ) → n ≤ 64 → ltb (count_trailing_zeros 64 x) n ≡ some n (bit x)
+first_below : (n x : ℕ) → n ≤ 64 → ltb (count_trailing_zeros 64 x) n ≡ some n (bit x)
 first_below n x h =
     let t = count_trailing_zeros 64 x in
     elim (cases_lt t n) [
       | inl within ↦ rw (lt-ltb t n within) (sym (some_made n (bit x) t within (trailing_one 64 x (omega arith))))
       | inr past ↦ rw (le-ltb t n past) (some_never n (bit x) (λ k hk. trailing_none 64 x k (omega arith)))
     ]
+
+-- some digit below n is 1 in both exactly when the lowest that is stands below n
+pub share_below : (n x y : ℕ) → n ≤ 64 → ltb (count_trailing_zeros 64 (bit_and x y)) n ≡ some n (λ j. bit x j && bit y j)
+share_below n x y h = first_below n (bit_and x y) h ∙ some_like n _ _ (λ j hj. bit_of_and x y j)
 
 pub less_dropped : (x : ℕ) → 0 < x → bit_and x (x - 1) < x
 less_dropped x h = omega (arith, and_le_r x (x - 1))

@@ -17,8 +17,8 @@ signed_sum n E F s i j y z one two =
     two ∙ ap (λ b. b || product n (E true) (F (not s)) i j) one ∙ some_or n (λ k. E false i k && F s k j) (λ k. E true i k && F (not s) k j)
 
 -- one name more beside itself
-pub beside_more : (x y : Bool) (i j p : ℕ) → y ≡ (x || (eqb i j && ltb i p)) → (y || (eqb i p && eqb j p)) ≡ (x || (eqb i j && ltb i (p + 1)))
-beside_more x y i j p e = rw e (grind (arith, nat_tests))
+pub beside_more : (x y : Bool) (i j p q : ℕ) → q ≡ p + 1 → y ≡ (x || (eqb i j && ltb i p)) → (y || (eqb i p && eqb j p)) ≡ (x || (eqb i j && ltb i q))
+beside_more x y i j p q up e = rw e (grind (arith, nat_tests))
 
 -- one name more beside itself, if it passes the test
 pub beside_taken : (K : ℕ → Bool) (x y : Bool) (i j p : ℕ) → K p ≡ true → y ≡ (x || (eqb i j && (ltb i p && K i))) → (y || (eqb i p && eqb j p)) ≡ (x || (eqb i j && (ltb i (p + 1) && K i)))

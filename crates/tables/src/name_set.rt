@@ -54,6 +54,7 @@ impl NameSet {
     }
 
     /// Whether a name of the span is in both.
+    #[tactic(auto, using(crate::proofs::Digits::share_below))]
     pub(crate) fn meets(self, other: NameSet, n: Span) -> bool
         ensures { result ≡ some n.names (λ j. has self j && has other j) }
     {

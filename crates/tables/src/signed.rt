@@ -52,6 +52,7 @@ impl SignedTable {
         // Both are read before either is written, since the rows may be one.
         let ahead = self.along.row(middle);
         let turned = self.against.row(middle);
+        // By `when`, since with an `if` for each sign in its place a whole closing took a twentieth longer.
         self.along
             .add(left, ahead.when(along).union(turned.when(against)));
         self.against

@@ -69,6 +69,7 @@ impl Table {
     }
 
     /// Adds each name of the span beside itself.
+    #[tactic(auto, using(crate::proofs::Rows::beside_more))]
     pub fn reflect(&mut self, n: Span)
         ensures each_beside_itself { Agree 64 64 (cell self.new) (reflexive n.names (cell self.old)) }
     {
