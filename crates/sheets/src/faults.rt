@@ -29,9 +29,8 @@ impl Fault {
         ensures one_deeper { result ≡ deeper_fault self }
     {
         Fault {
-            cause: self.cause,
-            place: self.place,
             depth: self.depth.saturating_add(1),
+            ..self
         }
     }
 }

@@ -1,6 +1,6 @@
 //! A layer that shows the axioms of at least a given trust, and the others as vacant.
 ghost use Rattle.std.specs.Prelude.{◌≡◌};
-ghost use Rattle.sheets.specs.Layers.{above as above_floor, floor_content};
+ghost use Rattle.sheets.specs.Layers.{floor_content};
 ghost use Rattle.sheets.specs.Layering.{floor_sound};
 
 use crate::faults::Fault;
@@ -23,15 +23,6 @@ impl<S: Sheet> Floor<S> {
     }
 }
 
-fn above(floor: u16, found: Option<Axiom>) -> Option<Axiom>
-    ensures { result ≡ above_floor floor found }
-{
-    match found {
-        Some(shown) if shown.trust < floor => None,
-        _ => found,
-    }
-}
-
 impl<S: Sheet> Sheet for Floor<S> {
     ghost content = { λ s. floor_content s.floor.value (S.Sheet.content s.below) };
 
@@ -51,6 +42,6 @@ impl<S: Sheet> Sheet for Floor<S> {
 
     fn at(&self, place: usize) -> Result<Option<Axiom>, Fault> {
         let found = read_below(&self.below, place)?;
-        Ok(above(self.floor.value, found))
+        Ok(found.filter(|shown| shown.trust >= self.floor.value))
     }
 }

@@ -1,20 +1,11 @@
 //! What every layer does with the sheet below it.
 ghost use Rattle.std.specs.Prelude.{◌≡◌};
 ghost use Rattle.sheets.specs.Contents.{answer};
-ghost use Rattle.sheets.specs.Layers.{one_up, handed_up};
+ghost use Rattle.sheets.specs.Layers.{handed_up};
 
 use crate::faults::Fault;
 use crate::sheet::Sheet;
 use axioms::Axiom;
-
-fn one_deeper(answer: Result<Option<Axiom>, Fault>) -> Result<Option<Axiom>, Fault>
-    ensures { result ≡ one_up answer }
-{
-    match answer {
-        Ok(found) => Ok(found),
-        Err(fault) => Err(fault.deeper()),
-    }
-}
 
 /// What the sheet below answers at a place, a fault one deeper. A layer has as many places as the sheet below, so at or
 /// past the end the fault is the layer's own.
@@ -24,5 +15,5 @@ pub fn read_below<S: Sheet>(below: &S, place: usize) -> Result<Option<Axiom>, Fa
     if place >= below.places() {
         return Err(Fault::no_such_place(place));
     }
-    one_deeper(below.at(place))
+    below.at(place).map_err(Fault::deeper)
 }
