@@ -17,10 +17,6 @@ pub record Open : Type 0 where
 abbrev pub opened : Content → ℕ → Bool → Open
 opened content room held = record { content = content; room = room; held = held }
 
--- what a value of an open sheet's type means, by what its ghost members say of it
-abbrev pub meaning : {S : Type 0} → (S → Content) → (S → ℕ) → (S → Bool) → S → Open
-meaning content room held s = opened (content s) (room s) (held s)
-
 -- an open sheet has no faulty place, and its places and its room are together at most 1,024
 pub record NoFaultFewPlaces (b : Open) : Type 0 where
   pub no_fault : (k : ℕ) → k < length b.content.places → is_ok (answer b.content k) ≡ true

@@ -1,5 +1,5 @@
--- What a workbook's table of slots means.
-use Rattle.std.specs.Prelude.{ℕ, List, map, take, Ok, Option}
+-- What a workbook's slots mean.
+use Rattle.std.specs.Prelude.{ℕ, List, map, Ok, Option}
 use Rattle.axioms.specs.declared.axiom_types.Axiom.{Axiom}
 use Rattle.sheets.specs.Contents.{Place, Content}
 
@@ -11,6 +11,6 @@ abbrev pub of_slot : Option Axiom → Place
 of_slot o = Ok o
 
 -- the slots that were used are the places, in order
-abbrev pub slot_content : ℕ → ℕ → List (Option Axiom) → ℕ → Content
-slot_content classes properties table used =
-    record { classes = classes; properties = properties; places = map of_slot (take used table) }
+abbrev pub slot_content : ℕ → ℕ → List (Option Axiom) → Content
+slot_content classes properties used =
+    record { classes = classes; properties = properties; places = map of_slot used }

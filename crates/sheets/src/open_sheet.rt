@@ -1,30 +1,29 @@
 //! A sheet that also takes statements and withdrawals, and has no faulty place.
-ghost use Rattle.std.specs.Prelude.{◌≡◌, ℕ, Bool, OnErr};
-ghost use Rattle.sheets.specs.OpenSheets.{meaning, NoFaultFewPlaces, Statement, Withdrawal};
+ghost use Rattle.std.specs.Prelude.{◌≡◌, OnErr};
+ghost use Rattle.sheets.specs.OpenSheets.{Open, NoFaultFewPlaces, Statement, Withdrawal};
 
 use crate::sheet::Sheet;
 use axioms::{Axiom, Cause, RawAxiom};
 
 pub trait OpenSheet: Sheet {
-    /// How many more statements it takes.
-    ghost room: { Self → ℕ };
-
-    /// Whether it refuses statements and withdrawals for now.
-    ghost held: { Self → Bool };
+    /// Its content as a sheet, how many more statements it takes, and whether it refuses them and withdrawals for now.
+    ghost meaning: { Self → Open };
 
     fn is_held(&self) -> bool
-        ensures says_whether_held { result ≡ held self.now }
-        ensures no_fault_and_few_places { NoFaultFewPlaces (meaning Self.Sheet.content room held self.now) };
+        ensures says_whether_held { result ≡ (meaning self.now).held }
+        ensures no_fault_and_few_places { NoFaultFewPlaces (meaning self.now) };
 
     /// Adds the axiom that the raw numbers state as a last place, and answers that place.
     fn state(&mut self, raw: RawAxiom) -> Result<usize, Cause>
-        ensures added_or_first_cause { Statement (meaning Self.Sheet.content room held self.old) raw result (meaning Self.Sheet.content room held self.new) }
+        ensures added_or_first_cause { Statement (meaning self.old) raw result (meaning self.new) }
         ensures unchanged_when_refused { OnErr result (self.new ≡ self.old) }
-        ensures no_fault_and_few_places { NoFaultFewPlaces (meaning Self.Sheet.content room held self.new) };
+        ensures no_fault_and_few_places { NoFaultFewPlaces (meaning self.new) };
 
     /// Makes the place vacant, and answers the axiom that it held.
     fn withdraw(&mut self, place: usize) -> Result<Axiom, Cause>
-        ensures vacated_or_first_cause { Withdrawal (meaning Self.Sheet.content room held self.old) place result (meaning Self.Sheet.content room held self.new) }
+        ensures vacated_or_first_cause { Withdrawal (meaning self.old) place result (meaning self.new) }
         ensures unchanged_when_refused { OnErr result (self.new ≡ self.old) }
-        ensures no_fault_and_few_places { NoFaultFewPlaces (meaning Self.Sheet.content room held self.new) };
+        ensures no_fault_and_few_places { NoFaultFewPlaces (meaning self.new) };
+
+    ghost same_content: { (s : Self) → (meaning s).content ≡ Self.Sheet.content s };
 }

@@ -1,4 +1,5 @@
 //! What a workbook does with statements and withdrawals.
+ghost use Rattle.std.specs.Prelude.{refl};
 ghost use Rattle.sheets.specs.Workbooks.{book};
 
 use crate::open_sheet::OpenSheet;
@@ -6,10 +7,11 @@ use crate::sheet::Sheet;
 use crate::workbook::Workbook;
 use axioms::{Axiom, Cause, RawAxiom, check};
 
+#[tactic(auto, using(crate::proofs::Statements::faultless))]
 impl OpenSheet for Workbook {
-    ghost room = { λ w. (book w).room };
+    ghost meaning = { book };
 
-    ghost held = { λ w. (book w).held };
+    ghost same_content = { λ w. refl };
 
     fn is_held(&self) -> bool {
         false
@@ -20,12 +22,13 @@ impl OpenSheet for Workbook {
         if self.slots.is_full() {
             return Err(Cause::NoRoom);
         }
-        Ok(self.slots.add(stated))
+        let place = self.slots.len();
+        self.slots.push(Some(stated));
+        Ok(place)
     }
 
     fn withdraw(&mut self, place: usize) -> Result<Axiom, Cause> {
-        let withdrawn = self.slots.axiom_at(place)?;
-        self.slots.clear(place);
-        Ok(withdrawn)
+        let slot = self.slots.get_mut(place).ok_or(Cause::NoSuchPlace)?;
+        slot.take().ok_or(Cause::VacantPlace)
     }
 }

@@ -7,7 +7,8 @@ ghost use Rattle.sheets.specs.Slotting.{slots_sound};
 
 use crate::faults::Fault;
 use crate::sheet::Sheet;
-use crate::workbook::{Slots, Workbook};
+use crate::workbook::Workbook;
+use arrayvec::ArrayVec;
 use axioms::{Axiom, Counts};
 
 impl Workbook {
@@ -17,7 +18,7 @@ impl Workbook {
     {
         Workbook {
             counts,
-            slots: Slots::new(),
+            slots: ArrayVec::new(),
         }
     }
 }
@@ -25,7 +26,7 @@ impl Workbook {
 impl Sheet for Workbook {
     ghost content = { λ w. (book w).content };
 
-    ghost sound = { λ w. slots_sound w.counts w.slots w.formed };
+    ghost sound = { λ w. slots_sound _ _ _ w.counts.few_classes w.counts.few_properties w.few_slots w.formed };
 
     fn classes(&self) -> u8 {
         self.counts.classes
@@ -40,6 +41,9 @@ impl Sheet for Workbook {
     }
 
     fn at(&self, place: usize) -> Result<Option<Axiom>, Fault> {
-        self.slots.get(place)
+        self.slots
+            .get(place)
+            .copied()
+            .ok_or(Fault::no_such_place(place))
     }
 }
