@@ -4,6 +4,7 @@
 mod faults;
 mod floor;
 mod layers;
+mod lent;
 mod open_sheet;
 mod sheet;
 mod workbook;
