@@ -1,4 +1,4 @@
-use Rattle.std.proofs.Common.{arith}
+use Rattle.std.proofs.Common.{arith, rules}
 use Rattle.std.proofs.lemmas.Result.{err_from_is_err_and}
 use Rattle.std.proofs.lemmas.Grind.{common_steps}
 use Rattle.sheets.proofs.Statements.{few_faultless, refused_first, refused_full, accepted}
@@ -18,7 +18,7 @@ returns-then-is_full-clause-added_or_first_cause c =
 pub returns-clause-added_or_first_cause : goal.returns-clause-added_or_first_cause
 returns-clause-added_or_first_cause c =
     let w = c.args.self.now in
-    accepted w.counts w.slots.items c.args.raw _ ((c.check.ensures.axiom_exactly_when_well_formed _).0 c.in_ok-stated.was) (grind (arith, common_steps)) _ _ c.len-place.ensures.value c.push.ensures.items
+    accepted w.counts w.slots.items c.args.raw _ ((c.check.ensures.axiom_exactly_when_well_formed _).0 c.in_ok-stated.was) (grind (arith, common_steps)) _ _ (search rules) (search rules)
 
 pub returns-clause-no_fault_and_few_places : goal.returns-clause-no_fault_and_few_places
 returns-clause-no_fault_and_few_places c = few_faultless _ _ _ (grind (arith, common_steps))
