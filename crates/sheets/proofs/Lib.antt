@@ -1,2 +1,3 @@
+pub mod FloorAnswers
 mod Statements
 mod Withdrawals

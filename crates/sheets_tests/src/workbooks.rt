@@ -12,7 +12,7 @@ pub(crate) fn csub(left: u16, right: u16, trust: u16) -> RawAxiom {
     }
 }
 
-fn axiom(left: u8, right: u8, trust: u16) -> Axiom {
+pub(crate) fn axiom(left: u8, right: u8, trust: u16) -> Axiom {
     Axiom {
         kind: Kind::Csub,
         left,
