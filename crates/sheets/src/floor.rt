@@ -8,6 +8,7 @@ use crate::layers::read_below;
 use crate::sheet::Sheet;
 use axioms::{Axiom, Trust};
 
+/// The sheet below, with each axiom under the floor shown as vacant.
 #[derive(Drop)]
 pub struct Floor<S: Sheet> {
     pub below: S,
@@ -15,6 +16,7 @@ pub struct Floor<S: Sheet> {
 }
 
 impl<S: Sheet> Floor<S> {
+    /// A layer over that sheet, owned or lent.
     pub fn over(below: S, floor: Trust) -> Floor<S>
         ensures lies_over_that_sheet { result.below ≡ below }
         ensures at_that_floor { result.floor ≡ floor }

@@ -6,9 +6,10 @@ use crate::sheet::Sheet;
 use axioms::{Axiom, Cause, RawAxiom};
 
 pub trait OpenSheet: Sheet {
-    /// Its content as a sheet, how many more statements it takes, and whether it refuses them and withdrawals for now.
+    /// Its content, how many more statements it takes, and whether it is held.
     ghost meaning: { Self → Open };
 
+    /// Whether it refuses statements and withdrawals for now.
     fn is_held(&self) -> bool
         ensures says_whether_held { result ≡ (meaning self.now).held }
         ensures no_fault_and_few_places { NoFaultFewPlaces (meaning self.now) };
@@ -25,5 +26,6 @@ pub trait OpenSheet: Sheet {
         ensures unchanged_when_refused { OnErr result (self.new ≡ self.old) }
         ensures no_fault_and_few_places { NoFaultFewPlaces (meaning self.new) };
 
+    /// What it means as an open sheet has the content that it has as a sheet.
     ghost same_content: { (s : Self) → (meaning s).content ≡ Self.Sheet.content s };
 }
