@@ -10,6 +10,7 @@ use axioms::{Axiom, Counts};
 pub(crate) mod as_open_sheet;
 pub(crate) mod as_sheet;
 
+/// How many slots a workbook has, used or not.
 pub const SLOTS: usize = 512;
 
 /// Its slots are those that statements took, in order. One that was withdrawn stays, and is vacant.

@@ -16,7 +16,7 @@ fn ninety() -> Result<Workbook, Cause> {
 fn floor_90_shows_trust_90_and_floor_91_hides_it(rt: HostRuntime) -> Result<(), Fail> {
     let shown = Floor::over(ninety()?, Trust::try_from(90)?);
     assert_eq!(rt; shown.at(0), shown.below.at(0));
-    assert_eq!(rt; shown.at(0).is_ok(), true);
+    assert!(rt; shown.at(0).is_ok());
     let hidden = Floor::over(ninety()?, Trust::try_from(91)?);
     assert_eq!(rt; hidden.at(0), Ok(None));
     assert_eq!(rt; hidden.classes(), 3);
@@ -28,8 +28,8 @@ fn floor_90_shows_trust_90_and_floor_91_hides_it(rt: HostRuntime) -> Result<(), 
 #[test]
 fn a_floor_is_1_to_100(rt: HostRuntime) {
     assert_eq!(rt; Trust::try_from(0).err(), Some(Cause::TrustOutOfRange));
-    assert_eq!(rt; Trust::try_from(1).is_ok(), true);
-    assert_eq!(rt; Trust::try_from(100).is_ok(), true);
+    assert!(rt; Trust::try_from(1).is_ok());
+    assert!(rt; Trust::try_from(100).is_ok());
     assert_eq!(rt; Trust::try_from(101).err(), Some(Cause::TrustOutOfRange));
 }
 

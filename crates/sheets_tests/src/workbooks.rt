@@ -44,7 +44,7 @@ fn withdrawals_are_refused_with_1_and_then_2(rt: HostRuntime) -> Result<(), Fail
     assert_eq!(rt; book.withdraw(1), Err(Cause::NoSuchPlace));
     assert_eq!(rt; book.withdraw(0), Ok(axiom(0, 1, 50)));
     assert_eq!(rt; book.withdraw(0), Err(Cause::VacantPlace));
-    assert_eq!(rt; book.is_held(), false);
+    assert!(rt; !book.is_held());
     Ok(())
 }
 
@@ -78,7 +78,7 @@ fn the_513th_statement_is_refused_with_10(rt: HostRuntime) -> Result<(), Fail> {
 
 #[test]
 fn counts_are_at_most_64(rt: HostRuntime) {
-    assert_eq!(rt; Counts::check(64, 64).is_ok(), true);
+    assert!(rt; Counts::check(64, 64).is_ok());
     assert_eq!(rt; Counts::check(65, 0).err(), Some(Cause::NameOutOfRange));
     assert_eq!(rt; Counts::check(0, 65).err(), Some(Cause::NameOutOfRange));
     assert_eq!(rt; Counts::check(300, 0).err(), Some(Cause::NameOutOfRange));
