@@ -7,43 +7,27 @@ use crate::theory::Theory;
 mod closing;
 mod emptiness;
 mod reading;
+mod steps;
+
+/// A theory with the relations that its first stages closed, up to the stage N.
+#[derive(Drop)]
+pub struct Stage<'a, const N: u8> {
+    theory: &'a Theory,
+    relations: Relations,
+    ghost exact: { ExactTo N theory.now relations },
+}
 
 /// Csub is closed.
-#[derive(Drop)]
-pub struct Stage1<'a> {
-    theory: &'a Theory,
-    relations: Relations,
-    ghost exact: { ∥ ExactTo 1 theory.now relations ∥₁ },
-}
+pub type Stage1<'a> = Stage<'a, 1>;
 
 /// Psub and psubinv are closed too.
-#[derive(Drop)]
-pub struct Stage2<'a> {
-    theory: &'a Theory,
-    relations: Relations,
-    ghost exact: { ∥ ExactTo 2 theory.now relations ∥₁ },
-}
+pub type Stage2<'a> = Stage<'a, 2>;
 
 /// Dom and ran are closed too.
-#[derive(Drop)]
-pub struct Stage3<'a> {
-    theory: &'a Theory,
-    relations: Relations,
-    ghost exact: { ∥ ExactTo 3 theory.now relations ∥₁ },
-}
+pub type Stage3<'a> = Stage<'a, 3>;
 
 /// Cdis is closed too.
-#[derive(Drop)]
-pub struct Stage4<'a> {
-    theory: &'a Theory,
-    relations: Relations,
-    ghost exact: { ∥ ExactTo 4 theory.now relations ∥₁ },
-}
+pub type Stage4<'a> = Stage<'a, 4>;
 
 /// Pdis and pdisinv are closed too, so that every relation and every empty name is known.
-#[derive(Drop)]
-pub struct Stage5<'a> {
-    theory: &'a Theory,
-    relations: Relations,
-    ghost exact: { ∥ ExactTo 5 theory.now relations ∥₁ },
-}
+pub type Stage5<'a> = Stage<'a, 5>;

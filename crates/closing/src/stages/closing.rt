@@ -1,69 +1,73 @@
 //! How each stage is had.
 ghost use Rattle.std.specs.Prelude.{◌≡◌};
-ghost use Rattle.closing.specs.Stages.{theory1, theory2, theory3, theory4, theory5};
+ghost use Rattle.closing.specs.Stages.{theory_of};
 
 use crate::relations::Relations;
-use crate::stages::{Stage1, Stage2, Stage3, Stage4, Stage5};
-use crate::steps::{close_cdis, close_csub, close_ends, close_pdis, close_psub};
+use crate::stages::{Stage, Stage1, Stage2, Stage3, Stage4, Stage5};
 use crate::theory::Theory;
 
 impl<'a> Stage1<'a> {
     pub fn over(theory: &'a Theory) -> Stage1<'a>
-        ensures over_that_theory { theory1 result ≡ theory.now }
+        ensures over_that_theory { theory_of result ≡ theory.now }
     {
-        let relations = Relations::with_csub(close_csub(theory));
-        Stage1 { theory, relations }
+        let relations = Relations::with_csub(theory.close_csub());
+        Stage { theory, relations }
     }
 }
 
 impl<'a> Stage2<'a> {
     pub fn after(before: Stage1<'a>) -> Stage2<'a>
-        ensures over_the_same_theory { theory2 result ≡ theory1 before.entry }
+        ensures over_the_same_theory { theory_of result ≡ theory_of before.entry }
     {
-        let Stage1 {
-            theory,
-            mut relations,
-        } = before;
-        relations.psub = close_psub(theory);
-        Stage2 { theory, relations }
+        let psub = before.close_psub();
+        Stage {
+            theory: before.theory,
+            relations: Relations {
+                psub,
+                ..before.relations
+            },
+        }
     }
 }
 
 impl<'a> Stage3<'a> {
     pub fn after(before: Stage2<'a>) -> Stage3<'a>
-        ensures over_the_same_theory { theory3 result ≡ theory2 before.entry }
+        ensures over_the_same_theory { theory_of result ≡ theory_of before.entry }
     {
-        let Stage2 {
+        let ends = before.close_ends();
+        let Stage {
             theory,
             mut relations,
         } = before;
-        relations.ends = close_ends(theory, &relations.csub, &relations.psub);
-        Stage3 { theory, relations }
+        relations.ends = ends;
+        Stage { theory, relations }
     }
 }
 
 impl<'a> Stage4<'a> {
     pub fn after(before: Stage3<'a>) -> Stage4<'a>
-        ensures over_the_same_theory { theory4 result ≡ theory3 before.entry }
+        ensures over_the_same_theory { theory_of result ≡ theory_of before.entry }
     {
-        let Stage3 {
+        let cdis = before.close_cdis();
+        let Stage {
             theory,
             mut relations,
         } = before;
-        relations.cdis = close_cdis(theory, &relations.csub);
-        Stage4 { theory, relations }
+        relations.cdis = cdis;
+        Stage { theory, relations }
     }
 }
 
 impl<'a> Stage5<'a> {
     pub fn after(before: Stage4<'a>) -> Stage5<'a>
-        ensures over_the_same_theory { theory5 result ≡ theory4 before.entry }
+        ensures over_the_same_theory { theory_of result ≡ theory_of before.entry }
     {
-        let Stage4 {
+        let pdis = before.close_pdis();
+        let Stage {
             theory,
             mut relations,
         } = before;
-        relations.pdis = close_pdis(theory, &relations.psub, &relations.ends, &relations.cdis);
-        Stage5 { theory, relations }
+        relations.pdis = pdis;
+        Stage { theory, relations }
     }
 }

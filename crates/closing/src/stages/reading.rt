@@ -1,48 +1,53 @@
 //! Reading the relations, each from its own stage on.
-ghost use Rattle.closing.specs.Reading.{ReadAt};
-ghost use Rattle.closing.specs.Stages.{theory1, theory2, theory3, theory4, theory5};
+ghost use Rattle.std.specs.Prelude.{◌≡◌};
+ghost use Rattle.closing.specs.Exactness.{reading};
+ghost use Rattle.closing.specs.Reading.{ReadAt, stage_of};
+ghost use Rattle.closing.specs.Stages.{theory_of};
 ghost use Rattle.closing.specs.Theories.{Tells};
 
-use crate::stages::{Stage1, Stage2, Stage3, Stage4, Stage5};
+use crate::stages::{Stage, Stage5};
 use axioms::Kind;
 
-impl<'a> Stage1<'a> {
-    pub fn read(&self, kind: Kind, left: u8, right: u8) -> Option<bool>
-        ensures tells_from_its_stage_on { ReadAt 1 (theory1 self.now) kind left right result }
-    {
-        self.relations.read_at(1, self.theory, kind, left, right)
+/// The stage that closes a relation.
+fn stage_of(kind: Kind) -> u8
+    ensures { result ≡ stage_of kind }
+{
+    match kind {
+        Kind::Csub => 1,
+        Kind::Psub | Kind::Psubinv => 2,
+        Kind::Dom | Kind::Ran => 3,
+        Kind::Cdis => 4,
+        Kind::Pdis | Kind::Pdisinv => 5,
     }
 }
 
-impl<'a> Stage2<'a> {
-    pub fn read(&self, kind: Kind, left: u8, right: u8) -> Option<bool>
-        ensures tells_from_its_stage_on { ReadAt 2 (theory2 self.now) kind left right result }
+impl<'a, const N: u8> Stage<'a, N> {
+    /// What is known at this stage: nothing before the relation's own stage, and from then on whether it can be derived.
+    pub fn known(&self, kind: Kind, left: u8, right: u8) -> Option<bool>
+        ensures tells_from_its_stage_on { ReadAt N (theory_of self.now) kind left right result }
     {
-        self.relations.read_at(2, self.theory, kind, left, right)
+        if stage_of(kind) <= N {
+            Some(self.held(kind, left, right))
+        } else {
+            None
+        }
     }
-}
 
-impl<'a> Stage3<'a> {
-    pub fn read(&self, kind: Kind, left: u8, right: u8) -> Option<bool>
-        ensures tells_from_its_stage_on { ReadAt 3 (theory3 self.now) kind left right result }
+    /// What the table of the kind holds between two names, and false at or past a count.
+    fn held(&self, kind: Kind, left: u8, right: u8) -> bool
+        ensures { result ≡ reading (theory_of self.now) self.now.relations kind left right }
     {
-        self.relations.read_at(3, self.theory, kind, left, right)
-    }
-}
-
-impl<'a> Stage4<'a> {
-    pub fn read(&self, kind: Kind, left: u8, right: u8) -> Option<bool>
-        ensures tells_from_its_stage_on { ReadAt 4 (theory4 self.now) kind left right result }
-    {
-        self.relations.read_at(4, self.theory, kind, left, right)
+        let lefts = self.theory.span(kind.left_sort());
+        let rights = self.theory.span(kind.right_sort());
+        self.relations.table(kind).read(left, right, lefts, rights)
     }
 }
 
 impl<'a> Stage5<'a> {
     /// The last stage has every relation.
     pub fn read(&self, kind: Kind, left: u8, right: u8) -> bool
-        ensures tells_what_is_derivable { Tells (theory5 self.now) kind left right result }
+        ensures tells_what_is_derivable { Tells (theory_of self.now) kind left right result }
     {
-        self.relations.read(self.theory, kind, left, right)
+        self.held(kind, left, right)
     }
 }

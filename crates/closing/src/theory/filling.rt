@@ -24,13 +24,10 @@ fn raw(stated: Axiom) -> RawAxiom
 fn check_found(found: Option<Axiom>, counts: Counts) -> Result<(), Cause>
     ensures { MatchResult result (λ _. NoneFits (found_grounds counts.classes counts.properties found) × ((a : Axiom) → found ≡ Some a → well_formed counts.classes counts.properties a ≡ true)) (λ e. FirstFitting (found_grounds counts.classes counts.properties found) e) }
 {
-    let Some(stated) = found else {
-        return Ok(());
-    };
-    match check(raw(stated), counts) {
-        Ok(_) => Ok(()),
-        Err(cause) => Err(cause),
+    if let Some(stated) = found {
+        check(raw(stated), counts)?;
     }
+    Ok(())
 }
 
 impl Theory {
@@ -51,15 +48,18 @@ impl Theory {
         self.counts
     }
 
+    /// What is at each place, in order.
+    pub fn places(&self) -> &[Option<Axiom>]
+        ensures are_what_is_placed { result.now ≡ placed self.now }
+    {
+        &self.places
+    }
+
     /// The axiom at a place, or nothing where it is vacant or there is no such place.
     pub fn at(&self, place: usize) -> Option<Axiom>
         ensures is_what_is_placed { result ≡ slice_index_or (placed self.now) place None }
     {
-        if place < PLACES {
-            self.places[place]
-        } else {
-            None
-        }
+        self.places.get(place).copied().flatten()
     }
 
     /// Puts an axiom at a place, or makes the place vacant.

@@ -1,7 +1,0 @@
-use Rattle.closing.proofs.Telling.{read_at}
-use Rattle.closing.proofs.stages.Stage4.read.Goals as goal
-
-pub returns : goal.returns
-returns c =
-    let s = c.args.self.now in
-    record { tells_from_its_stage_on = read_at 4 s.theory.now s.relations s.exact c.args.kind c.args.left c.args.right _ c.read_at.ensures }
