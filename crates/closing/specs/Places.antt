@@ -1,12 +1,11 @@
 -- The axioms at a list of places.
 use Rattle.std.specs.Prelude.{ℕ, ◌≤◌, List, [], ◌∷◌, Some, None, Option}
 use Rattle.axioms.specs.declared.axiom_types.Axiom.{Axiom}
-use Rattle.axioms.specs.declared.axiom_types.RawAxiom.{RawAxiom}
 use Rattle.axioms.specs.declared.causes.Cause.{Cause}
 use Rattle.axioms.specs.declared.causes.Cause.TheVariants.{NoSuchPlace}
-use Rattle.axioms.specs.Kinds.{row}
 use Rattle.axioms.specs.Axioms.{raw_grounds}
 use Rattle.axioms.specs.Ordered.{Ground, refuse}
+use Rattle.axioms.specs.Raw.{raw_of}
 
 -- a theory has so many places
 abbrev pub most_places : ℕ
@@ -17,10 +16,6 @@ abbrev pub held : List (Option Axiom) → List Axiom
 held [] = []
 held (None ∷ places) = held places
 held (Some a ∷ places) = a ∷ held places
-
--- the numbers of an axiom
-abbrev pub raw_of : Axiom → RawAxiom
-raw_of a = record { kind = (row a.kind).code; left = a.left; right = a.right; trust = a.trust }
 
 -- why what is found cannot stand at a place, in order
 abbrev pub found_grounds : ℕ → ℕ → Option Axiom → List (Ground Cause)

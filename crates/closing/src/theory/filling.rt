@@ -2,30 +2,18 @@
 ghost use Rattle.std.specs.Prelude.{◌≡◌, true, replicate, Some, None, MatchResult, OnErr, slice_index_or};
 ghost use Rattle.axioms.specs.Axioms.{well_formed};
 ghost use Rattle.axioms.specs.Ordered.{FirstFitting, NoneFits};
-ghost use Rattle.closing.specs.Places.{most_places, raw_of, found_grounds, put_grounds};
+ghost use Rattle.closing.specs.Places.{most_places, found_grounds, put_grounds};
 ghost use Rattle.closing.specs.Theories.{class_count, property_count, placed, Filled};
 
 use crate::theory::{PLACES, Theory};
 use axioms::{Axiom, Cause, Counts, RawAxiom, check};
-
-/// The numbers of an axiom.
-fn raw(stated: Axiom) -> RawAxiom
-    ensures { result ≡ raw_of stated }
-{
-    RawAxiom {
-        kind: u16::from(stated.kind.code()),
-        left: u16::from(stated.left),
-        right: u16::from(stated.right),
-        trust: stated.trust,
-    }
-}
 
 /// Refuses an axiom that is not well formed.
 fn check_found(found: Option<Axiom>, counts: Counts) -> Result<(), Cause>
     ensures { MatchResult result (λ _. NoneFits (found_grounds counts.classes counts.properties found) × ((a : Axiom) → found ≡ Some a → well_formed counts.classes counts.properties a ≡ true)) (λ e. FirstFitting (found_grounds counts.classes counts.properties found) e) }
 {
     if let Some(stated) = found {
-        check(raw(stated), counts)?;
+        check(RawAxiom::from(stated), counts)?;
     }
     Ok(())
 }
