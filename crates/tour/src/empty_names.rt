@@ -39,14 +39,14 @@ fn list(rt: &impl Print, fifth: &Stage5<'_>, counts: Counts) -> io::Result<()> {
 pub(crate) fn close(rt: &impl Print, book: &Workbook, mut theory: Theory) -> io::Result<()> {
     fill(&mut theory, book);
     let first = Stage1::over(&theory);
-    let within = yes_or_no(first.read(Kind::Csub, 3, 0));
+    let within = yes_or_no(first.known(Kind::Csub, 3, 0));
     println!(rt; "stage 1: glazed tiles are products: {within}")?;
-    let apart = yes_or_no(first.read(Kind::Cdis, 3, 3));
+    let apart = yes_or_no(first.known(Kind::Cdis, 3, 3));
     println!(rt; "stage 1: glazed tiles are disjoint from themselves: {apart}")?;
     let second = Stage2::after(first);
     let third = Stage3::after(second);
     let fourth = Stage4::after(third);
-    let apart = yes_or_no(fourth.read(Kind::Cdis, 3, 3));
+    let apart = yes_or_no(fourth.known(Kind::Cdis, 3, 3));
     println!(rt; "stage 4: glazed tiles are disjoint from themselves: {apart}")?;
     let fifth = Stage5::after(fourth);
     let number = fifth.empty_names();
