@@ -3,7 +3,7 @@
 
 mod listing;
 
-use closing::{Name, PLACES, Stage1, Stage2, Stage3, Stage4, Stage5, Theory};
+use closing::{Name, Stage1, Stage2, Stage3, Stage4, Stage5, Theory};
 use listing::{Fault, theory_of};
 use std::{fmt, io};
 
@@ -30,9 +30,7 @@ fn closed(theory: &Theory) -> Stage5<'_> {
 
 fn report(rt: &impl Print, theory: &Theory) -> io::Result<()> {
     let closed = closed(theory);
-    let axioms = (0..PLACES)
-        .filter(|place| theory.at(*place).is_some())
-        .count();
+    let axioms = theory.places().iter().flatten().count();
     let empty = closed.empty_names();
     println!(rt; "axioms {axioms}")?;
     println!(rt; "empty {empty}")?;
