@@ -129,11 +129,11 @@ module _ (t : Theory) where
         inner s a b ha hb =
             back_is s a b (omega arith) (omega arith) ∙ half_is s b a hb (omega arith)
             ∙ signed_product_like m m (cells r.psub) (psub_of (axioms_of t) n m) (cells F) (pdis_seed (axioms_of t) n m (ends_of (axioms_of t) n m) (derived_in t Cdis))
-              (psub_exact (λ k h. exact k (omega arith))) seeded s b a hb ha
+            (psub_exact (λ k h. exact k (omega arith))) seeded s b a hb ha
 
         closes : AgreeBoth m m (cells C) (pdis_of (axioms_of t) n m)
         closes s i j hi hj =
             made s i j hi (omega arith)
             ∙ signed_product_like m m (cells r.psub) (psub_of (axioms_of t) n m) (cells back)
-              (λ s. turned (signed_product m (psub_of (axioms_of t) n m) (pdis_seed (axioms_of t) n m (ends_of (axioms_of t) n m) (derived_in t Cdis)) s))
-              (psub_exact (λ k h. exact k (omega arith))) inner s i j hi hj
+            (λ s. turned (signed_product m (psub_of (axioms_of t) n m) (pdis_seed (axioms_of t) n m (ends_of (axioms_of t) n m) (derived_in t Cdis)) s))
+            (psub_exact (λ k h. exact k (omega arith))) inner s i j hi hj

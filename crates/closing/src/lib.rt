@@ -5,6 +5,7 @@ mod cases;
 mod names;
 mod relations;
 mod stages;
+mod steps;
 mod theory;
 
 pub use crate::cases::{cases_are_right, rules_are_sound};

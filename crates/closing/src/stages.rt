@@ -7,7 +7,6 @@ use crate::theory::Theory;
 mod closing;
 mod emptiness;
 mod reading;
-mod steps;
 
 /// A theory with the relations that its first stages closed, up to the stage N.
 #[derive(Drop)]

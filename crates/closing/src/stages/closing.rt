@@ -19,14 +19,12 @@ impl<'a> Stage2<'a> {
     pub fn after(before: Stage1<'a>) -> Stage2<'a>
         ensures over_the_same_theory { theory_of result ≡ theory_of before.entry }
     {
-        let psub = before.close_psub();
-        Stage {
-            theory: before.theory,
-            relations: Relations {
-                psub,
-                ..before.relations
-            },
-        }
+        let Stage {
+            theory,
+            mut relations,
+        } = before;
+        relations.psub = theory.close_psub();
+        Stage { theory, relations }
     }
 }
 
@@ -34,12 +32,11 @@ impl<'a> Stage3<'a> {
     pub fn after(before: Stage2<'a>) -> Stage3<'a>
         ensures over_the_same_theory { theory_of result ≡ theory_of before.entry }
     {
-        let ends = before.close_ends();
         let Stage {
             theory,
             mut relations,
         } = before;
-        relations.ends = ends;
+        relations.ends = relations.close_ends(theory);
         Stage { theory, relations }
     }
 }
@@ -48,12 +45,11 @@ impl<'a> Stage4<'a> {
     pub fn after(before: Stage3<'a>) -> Stage4<'a>
         ensures over_the_same_theory { theory_of result ≡ theory_of before.entry }
     {
-        let cdis = before.close_cdis();
         let Stage {
             theory,
             mut relations,
         } = before;
-        relations.cdis = cdis;
+        relations.cdis = relations.close_cdis(theory);
         Stage { theory, relations }
     }
 }
@@ -62,12 +58,11 @@ impl<'a> Stage5<'a> {
     pub fn after(before: Stage4<'a>) -> Stage5<'a>
         ensures over_the_same_theory { theory_of result ≡ theory_of before.entry }
     {
-        let pdis = before.close_pdis();
         let Stage {
             theory,
             mut relations,
         } = before;
-        relations.pdis = pdis;
+        relations.pdis = relations.close_pdis(theory);
         Stage { theory, relations }
     }
 }

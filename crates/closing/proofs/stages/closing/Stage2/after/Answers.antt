@@ -6,12 +6,12 @@ pub invariant_of-result : goal.invariant_of-result
 invariant_of-result c = record {
   exact = elim [
     | Csub ↦ λ h. c.args.before.exact Csub (omega arith)
-    | Psub ↦ λ h. c.close_psub-psub.ensures.0
+    | Psub ↦ λ h. c.close_psub-relations.ensures.0
     | Cdis ↦ λ h. absurd (omega arith)
     | Pdis ↦ λ h. absurd (omega arith)
     | Dom ↦ λ h. absurd (omega arith)
     | Ran ↦ λ h. absurd (omega arith)
-    | Psubinv ↦ λ h. c.close_psub-psub.ensures.1
+    | Psubinv ↦ λ h. c.close_psub-relations.ensures.1
     | Pdisinv ↦ λ h. absurd (omega arith)
   ];
 }
