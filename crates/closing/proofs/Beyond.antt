@@ -19,7 +19,7 @@ module _ (axioms : List Axiom) (classes properties : ℕ) (all : AllRanged class
     lone_class = record { member = λ c x. eqb c a; pair = λ q x y. false }
 
     off_class : {X : Type 0} (c : ℕ) → c < classes → eqb c a ≡ true → X
-    off_class c h e = let same = eqb-true c a e in let no_such : ⊥ = omega arith in elim no_such [ ]
+    off_class c h e = let same = eqb-true c a e in absurd (omega arith)
 
     lone_class_holds : (k : Kind) (l r : ℕ) → l < lefts classes properties k → Holds lone_class k l r
     lone_class_holds Csub l r h = λ x m. off_class l h m
@@ -40,7 +40,7 @@ module _ (axioms : List Axiom) (classes properties : ℕ) (all : AllRanged class
     lone_property = record { member = λ c x. false; pair = λ q x y. eqb q p }
 
     off_property : {X : Type 0} (q : ℕ) → q < properties → eqb q p ≡ true → X
-    off_property q h e = let same = eqb-true q p e in let no_such : ⊥ = omega arith in elim no_such [ ]
+    off_property q h e = let same = eqb-true q p e in absurd (omega arith)
 
     lone_property_holds : (k : Kind) (l r : ℕ) → l < lefts classes properties k → Holds lone_property k l r
     lone_property_holds Csub l r h = λ x m. never m
@@ -56,7 +56,7 @@ module _ (axioms : List Axiom) (classes properties : ℕ) (all : AllRanged class
     property_beyond = (lone_property, fits_all lone_property axioms (λ k l r g. lone_property_holds k l r (all k l r g).0), (0, 0, eq-eqb p p refl))
 
   inhabited_when : (name : Name) (answer : Bool) → (answer ≡ true → ⊥) → Inhabited axioms name → MatchBool answer (Empty axioms name) (Inhabited axioms name)
-  inhabited_when name true isnt i = elim (isnt refl) [ ]
+  inhabited_when name true isnt i = absurd (isnt refl)
   inhabited_when name false isnt i = i
 
   -- of any name, in range or not

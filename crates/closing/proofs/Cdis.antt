@@ -1,6 +1,7 @@
 -- The test of stage 4 decides which cdis can be derived.
-use Rattle.std.proofs.Common.{◌≡◌, ℕ, true, List, Decides, inl, inr}
-use Rattle.std.proofs.lemmas.Bool.{or_cases, or_left, or_right}
+use Rattle.std.proofs.Common.{◌≡◌, ◌∙◌, ℕ, true, List, Decides, inl, inr}
+use Rattle.std.proofs.lemmas.Bool.{or_cases, or_left}
+use Rattle.std.proofs.Math.Bool.{or_comm}
 use Rattle.tables.specs.Relations.{Rel}
 use Rattle.tables.proofs.Signs.{plain, Steps}
 use Rattle.tables.proofs.Closings.{steps}
@@ -13,7 +14,7 @@ use Rattle.closing.proofs.Ranged.{AllRanged, stated_from, stated_to, ranged}
 use Rattle.closing.proofs.Csub.{csub_derives, csub_joins, csub_selves, csub_held}
 
 pub either_turned : (R : Rel) (a b : ℕ) → either_way R a b ≡ true → either_way R b a ≡ true
-either_turned R a b h = elim (or_cases (R a b) (R b a) h) [ inl l ↦ or_right (R b a) (R a b) l | inr r ↦ or_left (R b a) (R a b) r ]
+either_turned R a b h = or_comm (R b a) (R a b) ∙ h
 
 module _ (axioms : List Axiom) (classes properties : ℕ) (all : AllRanged classes properties axioms) where
   abbrev Dis : ℕ → ℕ → Type 0

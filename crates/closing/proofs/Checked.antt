@@ -28,7 +28,7 @@ in_range [] = true
 in_range (a ∷ axioms) = names_in_range 3 3 a.kind a.left a.right && in_range axioms
 
 all_ranged : (axioms : List Axiom) → in_range axioms ≡ true → AllRanged 3 3 axioms
-all_ranged [] h k l r g = elim g [ ]
+all_ranged [] h k l r g = absurd g
 all_ranged (a ∷ axioms) h k l r (inl s) = says_ranged 3 3 a k l r (and_parts (names_in_range 3 3 a.kind a.left a.right) (in_range axioms) h).0 s
 all_ranged (a ∷ axioms) h k l r (inr g) = all_ranged axioms (and_parts (names_in_range 3 3 a.kind a.left a.right) (in_range axioms) h).1 k l r g
 

@@ -1,6 +1,6 @@
 -- A name is empty if the rules find it so, and else it has an example.
 use Rattle.std.proofs.Common.{◌≡◌, ℕ, ◌<◌, true, false, ◌&&◌, eqb, ◌⊎◌, List, [], ◌∷◌, Decides, refl, inl, inr, arith}
-use Rattle.std.proofs.lemmas.Bool.{and_parts, or_cases, or_left, or_right, eqb-true, eq-eqb, both_ways}
+use Rattle.std.proofs.lemmas.Bool.{and_parts, or_cases, or_left, or_right, eqb-true, eq-eqb}
 use Rattle.tables.specs.Relations.{Rel}
 use Rattle.tables.proofs.Sums.{and_both}
 use Rattle.axioms.specs.declared.axiom_types.Axiom.{Axiom}
@@ -19,7 +19,7 @@ fits_all I (a ∷ axioms) each =
     (each a.kind a.left a.right (inl (record { kind = refl; left = refl; right = refl })), fits_all I axioms (λ k l r g. each k l r (inr g)))
 
 pub never : {X : Type 0} → false ≡ true → X
-never h = elim (both_ways false refl h) [ ]
+never h = cc
 
 module _ (axioms : List Axiom) (classes properties : ℕ) where
   abbrev D : Kind → ℕ → ℕ → Type 0
@@ -94,7 +94,7 @@ module _ (axioms : List Axiom) (classes properties : ℕ) where
           (and_both (eqb x 1 && eqb y 0) (test Psubinv p q) (and_both (eqb x 1) (eqb y 0) (eq-eqb x 1 e) (eq-eqb y 0 f)) ((decides Psubinv p q).1 d))
 
       mixed : {X : Type 0} (x : ℕ) → x ≡ 0 → x ≡ 1 → X
-      mixed x e f = let no_way : ⊥ = omega arith in elim no_way [ ]
+      mixed x e f = absurd (omega arith)
 
       property_holds : (D Pdis p p → ⊥) → (k : Kind) (l r : ℕ) → Stated axioms k l r → Holds I k l r
       property_holds none Csub l r g = λ x m.

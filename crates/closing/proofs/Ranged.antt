@@ -1,6 +1,6 @@
 -- The test for what is stated, and that what can be derived is between names below their counts.
-use Rattle.std.proofs.Common.{◌≡◌, ℕ, ◌<◌, true, false, ◌&&◌, eqb, ltb, List, [], ◌∷◌, sym, refl, ap, subst, inl, inr}
-use Rattle.std.proofs.lemmas.Bool.{and_parts, or_cases, or_left, or_right, ltb-true, eqb-true, eq-eqb, both_ways}
+use Rattle.std.proofs.Common.{◌≡◌, ℕ, ◌<◌, true, ◌&&◌, eqb, ltb, List, [], ◌∷◌, sym, ap, subst, inl, inr}
+use Rattle.std.proofs.lemmas.Bool.{and_parts, or_cases, or_left, or_right, ltb-true, eqb-true, eq-eqb}
 use Rattle.tables.proofs.Sums.{and_both}
 use Rattle.axioms.specs.declared.axiom_types.Axiom.{Axiom}
 use Rattle.axioms.specs.declared.kinds.Kind.{Kind}
@@ -25,7 +25,7 @@ it_says a k l r s =
     and_both _ _ (eq-eqb _ _ (ap (λ j. (row j).code) s.kind)) (and_both _ _ (eq-eqb _ _ (sym s.left)) (eq-eqb _ _ (sym s.right)))
 
 pub stated_from : (axioms : List Axiom) (k : Kind) (l r : ℕ) → is_stated axioms k l r ≡ true → Stated axioms k l r
-stated_from [] k l r h = elim (both_ways false refl h) [ ]
+stated_from [] k l r h = cc
 stated_from (a ∷ axioms) k l r h =
     elim (or_cases (says a k l r) (is_stated axioms k l r) h) [
       | inl s ↦ inl (says_it a k l r s)
@@ -33,7 +33,7 @@ stated_from (a ∷ axioms) k l r h =
     ]
 
 pub stated_to : (axioms : List Axiom) (k : Kind) (l r : ℕ) → Stated axioms k l r → is_stated axioms k l r ≡ true
-stated_to [] k l r g = elim g [ ]
+stated_to [] k l r g = absurd g
 stated_to (a ∷ axioms) k l r (inl s) = or_left (says a k l r) (is_stated axioms k l r) (it_says a k l r s)
 stated_to (a ∷ axioms) k l r (inr g) = or_right (says a k l r) (is_stated axioms k l r) (stated_to axioms k l r g)
 

@@ -13,7 +13,7 @@ module _ (I : Interpretation) where
       (subst (λ z. Holds I a.kind a.left z) says.right fits))
 
   stated_holds : (axioms : List Axiom) (k : Kind) (l r : ℕ) → FitsAll I axioms → Stated axioms k l r → Holds I k l r
-  stated_holds [] k l r fits g = elim g [ ]
+  stated_holds [] k l r fits g = absurd g
   stated_holds (a ∷ axioms) k l r fits (inl says) = says_holds a k l r says fits.0
   stated_holds (a ∷ axioms) k l r fits (inr g) = stated_holds axioms k l r fits.1 g
 

@@ -1,6 +1,6 @@
 -- What the axioms at a list of places state, place by place.
-use Rattle.std.proofs.Common.{◌≡◌, ℕ, suc, ◌+◌, ◌<◌, Bool, true, false, ◌&&◌, ◌||◌, eqb, List, [], ◌∷◌, ◌++◌, length, get_or, take, Some, None, Option, sym, refl, ap, ◌∙◌, inl, inr}
-use mathlib.Core.Bool.{or-false, or_assoc, and_comm}
+use Rattle.std.proofs.Common.{◌≡◌, ℕ, suc, ◌+◌, ◌<◌, Bool, false, ◌&&◌, ◌||◌, eqb, List, [], ◌∷◌, ◌++◌, length, get_or, take, Some, None, Option, sym, refl, ap, ◌∙◌, inl, inr}
+use mathlib.Core.Bool.{or-false, or_assoc}
 use Rattle.std.proofs.lemmas.List.{take_more}
 use Rattle.std.proofs.lemmas.Bool.{and_parts, eq-eqb, ne_eqb}
 use Rattle.axioms.specs.declared.axiom_types.Axiom.{Axiom}
@@ -15,7 +15,7 @@ use Rattle.closing.specs.declared.theory.Theory.{Theory}
 use Rattle.closing.proofs.Ranged.{AllRanged, says_ranged}
 
 held_ranged : (c p : ℕ) (places : List (Option Axiom)) → AllFormed c p places → AllRanged c p (held places)
-held_ranged c p [] formed k l r g = elim g [ ]
+held_ranged c p [] formed k l r g = absurd g
 held_ranged c p (None ∷ places) formed k l r g = held_ranged c p places (λ j. formed (suc j)) k l r g
 held_ranged c p (Some a ∷ places) formed k l r (inl s) =
     says_ranged c p a k l r (and_parts (names_in_range c p a.kind a.left a.right) _ (formed 0 a refl)).0 s
@@ -56,13 +56,3 @@ module _ (places : List (Option Axiom)) (i : ℕ) (within : i < length places) (
 
   pub more_such : (a : Axiom) → get_or places i None ≡ Some a → a.kind ≡ k → after ≡ (before || (eqb l a.left && eqb r a.right))
   more_such a is e = more (Some a) is ∙ ap (λ b. before || b) (rw (eq-eqb _ _ (ap (λ j. (row j).code) e)))
-
--- a pair more, marked both ways
-pub both_ways_more : (x y l r r' l' : Bool) → (((x || y) || (l && r)) || (r' && l')) ≡ ((x || (l && r)) || (y || (l' && r')))
-both_ways_more true y l r r' l' = refl
-both_ways_more false true true true r' l' = refl
-both_ways_more false true true false r' l' = refl
-both_ways_more false true false r r' l' = refl
-both_ways_more false false true true r' l' = refl
-both_ways_more false false true false r' l' = and_comm r' l'
-both_ways_more false false false r r' l' = and_comm r' l'

@@ -1,6 +1,6 @@
 -- A table that is exact, read within its ranges, tells of any two names whether the relation can be derived.
-use Rattle.std.proofs.Common.{◌≡◌, ℕ, ◌<◌, ◌≤◌, Bool, false, Decides, sym, ◌∙◌, subst, inl, inr, arith}
-use Rattle.std.proofs.lemmas.Bool.{cases_lt, lt-ltb, le-ltb, both_ways}
+use Rattle.std.proofs.Common.{◌≡◌, ℕ, ◌<◌, ◌≤◌, Bool, false, Decides, ◌∙◌, inl, inr, arith}
+use Rattle.std.proofs.lemmas.Bool.{cases_lt, lt-ltb, le-ltb}
 use Rattle.std.proofs.lemmas.Bool.Decides.{Decides-at}
 use Rattle.tables.specs.Tables.{cell}
 use Rattle.axioms.specs.declared.kinds.Kind.{Kind}
@@ -10,7 +10,6 @@ use Rattle.closing.specs.Exactness.{ExactTo, table_of, reading}
 use Rattle.closing.specs.Reading.{stage_of}
 use Rattle.closing.specs.Theories.{class_count, property_count, names, axioms_of, Tells, FoundIn, TellsEmpty}
 use Rattle.closing.specs.declared.names.Name.{Name}
-use Rattle.closing.specs.declared.names.Name.TheVariants.{Class, Property}
 use Rattle.closing.specs.declared.relations.Relations.{Relations}
 use Rattle.closing.specs.declared.theory.Theory.{Theory}
 use Rattle.closing.proofs.Beyond.{told}
@@ -21,8 +20,8 @@ use Rattle.closing.proofs.Stating.{all_ranged}
 module _ (n : ℕ) (t : Theory) (r : Relations) (exact : ExactTo n t r) (k : Kind) (left right : ℕ) (answer : Bool) (is_read : answer ≡ reading t r k left right) where
   outside : answer ≡ false → (left < names t (row k).left → right < names t (row k).right → ⊥) → Tells t k left right answer
   outside isnt out = record {
-    derivable = (λ is. elim (both_ways answer isnt is) [ ], λ d. let h = ranged (class_count t) (property_count t) (all_ranged t) d in elim (out h.0 h.1) [ ]);
-    in_range = λ is. elim (both_ways answer isnt is) [ ];
+    derivable = (λ is. cc, λ d. let h = ranged (class_count t) (property_count t) (all_ranged t) d in absurd (out h.0 h.1));
+    in_range = λ is. cc;
   }
 
   pub tells : stage_of k ≤ n → Tells t k left right answer
@@ -48,13 +47,6 @@ every_stage_came Ran = omega arith
 every_stage_came Psubinv = omega arith
 every_stage_came Pdisinv = omega arith
 
--- a name by its diagonal
-module _ (t : Theory) (name : Name) (answer : Bool) where
-  abbrev Told : Name → Type 0
-  Told x = TellsEmpty t x answer × Decides answer (FoundIn t x)
-
-  pub class_told : (a : ℕ) → name ≡ Class a → Tells t Cdis a a answer → Told name
-  class_told a is d = subst Told (sym is) (told (axioms_of t) (class_count t) (property_count t) (all_ranged t) (Class a) answer d.derivable, d.derivable)
-
-  pub property_told : (p : ℕ) → name ≡ Property p → Tells t Pdis p p answer → Told name
-  property_told p is d = subst Told (sym is) (told (axioms_of t) (class_count t) (property_count t) (all_ranged t) (Property p) answer d.derivable, d.derivable)
+-- a name by whether it is found
+pub told_in : (t : Theory) (name : Name) (answer : Bool) → Decides answer (FoundIn t name) → TellsEmpty t name answer
+told_in t name answer = told (axioms_of t) (class_count t) (property_count t) (all_ranged t) name answer

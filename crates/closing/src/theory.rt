@@ -10,7 +10,7 @@ mod stating;
 
 pub const PLACES: usize = 1024;
 
-/// The axioms to be closed, each at its place.
+/// The axioms to be closed, each at its place. In fixed memory and not on the heap, so that no call can run out of memory.
 #[derive(Drop)]
 pub struct Theory {
     counts: Counts,

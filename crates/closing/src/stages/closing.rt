@@ -1,4 +1,5 @@
-//! How each stage is had.
+//! How each stage is had. The four that follow a stage close other relations by other rules, so one function for them would
+//! need a switch on the stage.
 ghost use Rattle.std.specs.Prelude.{◌≡◌};
 ghost use Rattle.closing.specs.Stages.{theory_of};
 

@@ -8,7 +8,7 @@ ghost use Rattle.closing.specs.Theories.{Tells};
 use crate::stages::{Stage, Stage5};
 use axioms::Kind;
 
-/// The stage that closes a relation.
+/// The stage that closes a relation, by the number that stands in the type of the stage.
 fn stage_of(kind: Kind) -> u8
     ensures { result ≡ stage_of kind }
 {
