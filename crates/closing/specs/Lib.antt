@@ -9,3 +9,4 @@ pub mod Examples
 pub mod Cases
 pub mod Tests
 pub mod Exactness
+pub mod Names

@@ -2,18 +2,7 @@
 #![tactic(auto)]
 
 use axioms::{Axiom, Cause, Counts, Kind, RawAxiom, check};
-use closing::{Stage1, Stage2, Stage3, Stage4, Stage5, Theory};
-
-const KINDS: [Kind; 8] = [
-    Kind::Csub,
-    Kind::Psub,
-    Kind::Cdis,
-    Kind::Pdis,
-    Kind::Dom,
-    Kind::Ran,
-    Kind::Psubinv,
-    Kind::Pdisinv,
-];
+use closing::Theory;
 
 /// The axiom of four bytes: its kind, left, right and trust.
 fn axiom_of(bytes: [u8; 4], counts: Counts) -> Result<Axiom, Cause> {
@@ -41,22 +30,14 @@ fn theory_of(classes: u8, properties: u8, axioms: &[u8]) -> Result<Theory, Cause
     Ok(theory)
 }
 
-fn closed(theory: &Theory) -> Stage5<'_> {
-    let first = Stage1::over(theory);
-    let second = Stage2::after(first);
-    let third = Stage3::after(second);
-    let fourth = Stage4::after(third);
-    Stage5::after(fourth)
-}
-
 /// How many names are empty under the axioms. Like the two functions below, it answers the greatest number where a count
-/// is above 64.
+/// is above 64, since a caller by the C calling convention takes no `Result`.
 #[unsafe(no_mangle)]
 pub extern "C" fn close_once(classes: u8, properties: u8, axioms: &[u8]) -> u32 {
-    match theory_of(classes, properties, axioms) {
-        Ok(theory) => u32::from(closed(&theory).empty_names()),
-        Err(_) => u32::MAX,
-    }
+    theory_of(classes, properties, axioms).map_or(
+        u32::MAX,
+        |theory| u32::from(theory.closed().empty_names()),
+    )
 }
 
 /// Closes the axioms so many times. The answer is the sum over the rounds of the number of empty names and of one
@@ -68,7 +49,7 @@ pub extern "C" fn close_times(classes: u8, properties: u8, axioms: &[u8], times:
     };
     let mut sum = 0u32;
     for round in 0..times {
-        let closed = closed(&theory);
+        let closed = theory.closed();
         let cell = closed.read(Kind::Pdisinv, (round % 64) as u8, (round / 64 % 64) as u8);
         sum = sum
             .wrapping_add(u32::from(closed.empty_names()))
@@ -83,9 +64,9 @@ pub extern "C" fn close_digest(classes: u8, properties: u8, axioms: &[u8]) -> u3
     let Ok(theory) = theory_of(classes, properties, axioms) else {
         return u32::MAX;
     };
-    let closed = closed(&theory);
+    let closed = theory.closed();
     let mut digest = 0u32;
-    for kind in KINDS {
+    for kind in Kind::all() {
         for left in 0u8..64 {
             for right in 0u8..64 {
                 let cell = u32::from(closed.read(kind, left, right));

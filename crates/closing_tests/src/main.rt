@@ -5,31 +5,10 @@ mod listing;
 
 use closing::{Name, Stage1, Stage2, Stage3, Stage4, Stage5, Theory};
 use listing::{Fault, theory_of};
-use std::{fmt, io};
-
-/// A name as a report lists it.
-#[derive(Clone, Copy)]
-struct Listed(Name);
-
-impl fmt::Display for Listed {
-    fn fmt<W: fmt::Write>(&self, f: &mut fmt::Formatter<W>) -> fmt::Result {
-        match self.0 {
-            Name::Class(class) => write!(f, "class {class}"),
-            Name::Property(property) => write!(f, "property {property}"),
-        }
-    }
-}
-
-fn closed(theory: &Theory) -> Stage5<'_> {
-    let first = Stage1::over(theory);
-    let second = Stage2::after(first);
-    let third = Stage3::after(second);
-    let fourth = Stage4::after(third);
-    Stage5::after(fourth)
-}
+use std::io;
 
 fn report(rt: &impl Print, theory: &Theory) -> io::Result<()> {
-    let closed = closed(theory);
+    let closed = theory.closed();
     let axioms = theory.places().iter().flatten().count();
     let empty = closed.empty_names();
     println!(rt; "axioms {axioms}")?;
@@ -41,7 +20,7 @@ fn report(rt: &impl Print, theory: &Theory) -> io::Result<()> {
         .chain(properties)
         .filter(|name| closed.is_empty(*name))
     {
-        println!(rt; "{}", Listed(name))?;
+        println!(rt; "{name}")?;
     }
     Ok(())
 }

@@ -67,3 +67,16 @@ impl<'a> Stage5<'a> {
         Stage { theory, relations }
     }
 }
+
+impl Theory {
+    /// The fifth stage, by way of the four before it.
+    pub fn closed(&self) -> Stage5<'_>
+        ensures over_this_theory { theory_of result ≡ self.now }
+    {
+        let first = Stage1::over(self);
+        let second = Stage2::after(first);
+        let third = Stage3::after(second);
+        let fourth = Stage4::after(third);
+        Stage5::after(fourth)
+    }
+}
