@@ -1,3 +1,4 @@
 pub mod FloorAnswers
+pub mod Slots
 mod Statements
 mod Withdrawals

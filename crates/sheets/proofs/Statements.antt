@@ -41,7 +41,7 @@ module _ (n : Counts) (used : List (Option Axiom)) (raw : RawAxiom) where
     none : NoneFits grounds
     none = no_cause_for_formed n.classes n.properties raw a h.0 h.1
 
-    pub refused_full : length used ≡ most_slots → FirstFitting (statement_grounds (book_of n used) raw) NoRoom
+    pub refused_full : most_slots ≤ length used → FirstFitting (statement_grounds (book_of n used) raw) NoRoom
     refused_full all = inr (λ r x. cc, first_after grounds full NoRoom none (inl (omega arith, refl)))
 
     pub accepted : length used < most_slots → (place : ℕ) (after : List (Option Axiom)) → place ≡ length used → after ≡ used ++ (Some a ∷ [])

@@ -14,7 +14,7 @@ use Rattle.sheets.specs.Workbooks.{book_of}
 use Rattle.sheets.specs.Slotting.{within_slots}
 
 module _ (n : Counts) (used : List (Option Axiom)) (k : ℕ) (within : k < length used) where
-  refused_vacant : slice_index_or used k None ≡ None → FirstFitting (withdrawal_grounds (book_of n used) k) VacantPlace
+  pub refused_vacant : slice_index_or used k None ≡ None → FirstFitting (withdrawal_grounds (book_of n used) k) VacantPlace
   refused_vacant h =
       inr (λ r x. cc, inr (λ r x. omega (arith, within, simp length-map at x.0), inl (within_slots n.classes n.properties used k None within ∙ ap of_slot h, refl)))
 

@@ -17,7 +17,7 @@ module _ (classes properties : ℕ) (used : List (Option Axiom)) where
   pub within_slots : (k : ℕ) (o : Option Axiom) → k < length used → answer shown k ≡ Ok (slice_index_or used k o)
   within_slots k o within = get_or-map of_slot used k o (Err (no_such_place k)) within
 
-  past_slots : (k : ℕ) → length used ≤ k → answer shown k ≡ Err (no_such_place k)
+  pub past_slots : (k : ℕ) → length used ≤ k → answer shown k ≡ Err (no_such_place k)
   past_slots k past = get_or_past (map of_slot used) k (Err (no_such_place k)) (simp length-map past)
 
   pub slots_sound : classes ≤ most_names → properties ≤ most_names → length used ≤ most_slots → AllFormed classes properties used → Sound shown
