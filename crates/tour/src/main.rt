@@ -79,7 +79,7 @@ fn fill(rt: &impl Print, counts: Counts) -> io::Result<()> {
 }
 
 /// What both sheets answer, place by place and once past the end.
-fn compare(rt: &impl Print, layered: &Floor<Workbook>) -> io::Result<()> {
+fn compare(rt: &impl Print, layered: &Floor<&Workbook>) -> io::Result<()> {
     for place in 0..=layered.places() {
         println!(rt; "place {place}")?;
         println!(rt; "  book:  {}", Answer(layered.below.at(place)))?;
@@ -125,7 +125,7 @@ fn tour(rt: &impl Print, counts: Counts, floor: Trust) -> io::Result<()> {
     empty_names::close(rt, &book, Theory::new(counts))?;
     let value = floor.value;
     println!(rt; "The book, and a floor of {value} over it")?;
-    compare(rt, &Floor::over(book, floor))
+    compare(rt, &Floor::over(&book, floor))
 }
 
 /// The tour over a book with so many classes and that floor, if there can be such.
