@@ -1,18 +1,11 @@
 -- How many numbers below a count pass a test, by a chain over the names of a span.
-use Rattle.std.proofs.Common.{◌≡◌, ℕ, zero, suc, ◌+◌, ◌<◌, Bool, true, false, cond, List, ◌∷◌, length, refl, sym, ap, ◌∙◌, subst, Option, arith}
-use Rattle.std.specs.Prelude.{MatchOption}
+use Rattle.std.proofs.Common.{◌≡◌, ℕ, zero, suc, ◌+◌, Bool, true, false, cond, List, ◌∷◌, length, refl, sym, ap, ◌∙◌, subst, arith}
 use Rattle.std.specs.List.{range_with_len, filter}
 use Rattle.std.specs.Iterator.{AlwaysYields}
 use Rattle.std.proofs.lemmas.Iterator.{YieldsList}
+use Rattle.tables.specs.Names.{rises}
 use Rattle.tables.specs.Relations.{count}
-use Rattle.tables.specs.declared.span.Name.{Name}
 use Rattle.tables.specs.declared.span.Names.{Names}
-
--- a call of `next`
-abbrev pub rises : Names → Option Name → Names → Type 0
-rises s r t = (t.numbers.end ≡ s.numbers.end)
-    × MatchOption r (s.numbers.start ≡ s.numbers.end) (λ name. (s.numbers.start ≡ name.number)
-    × (name.number < s.numbers.end) × (t.numbers.start ≡ name.number + 1))
 
 turns : (n a : ℕ) (s : Names) → s.numbers.start ≡ a → s.numbers.end ≡ a + n → AlwaysYields rises (λ x. x.number) s (range_with_len a n)
 turns zero a s e f = λ x j p. omega (arith, p.1)

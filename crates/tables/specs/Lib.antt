@@ -3,3 +3,4 @@ pub mod Signed
 pub mod Least
 pub mod Sets
 pub mod Tables
+pub mod Names

@@ -29,10 +29,9 @@ impl SignedTable {
     pub fn none() -> SignedTable
         ensures holds_no_pair { (s : Bool) (i j : ℕ) → cells result s i j ≡ false }
     {
-        SignedTable {
-            along: Table::none(),
-            against: Table::none(),
-        }
+        let along = Table::none();
+        let against = Table::none();
+        SignedTable { along, against }
     }
 
     /// Adds every pair that a chain of pairs leads to, over the names of the span. Two reversals cancel.

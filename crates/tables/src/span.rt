@@ -1,5 +1,5 @@
 //! Names, and how many of them a relation is over.
-ghost use Rattle.std.specs.Prelude.{◌≡◌, ◌+◌, ◌-◌, ◌<◌, ◌≤◌, MatchOption};
+ghost use Rattle.std.specs.Prelude.{◌≡◌, ◌-◌, ◌<◌, ◌≤◌};
 ghost use Rattle.std.specs.Iterator.{at_most};
 
 use std::ops::Range;
@@ -42,11 +42,11 @@ pub(crate) struct Names {
 }
 
 impl Iterator for Names {
+    ghost use Rattle.tables.specs.Names.{rises};
+
     type Item = Name;
 
-    ghost next_gives = { λ s r t. (t.numbers.end ≡ s.numbers.end)
-        × MatchOption r (s.numbers.start ≡ s.numbers.end) (λ name. (s.numbers.start ≡ name.number)
-        × (name.number < s.numbers.end) × (t.numbers.start ≡ name.number + 1)) };
+    ghost next_gives = { rises };
 
     ghost remaining = { λ s. at_most (s.numbers.end - s.numbers.start) };
 
