@@ -3,18 +3,18 @@ use Rattle.std.proofs.Common.{◌≡◌, ℕ, zero, suc, ◌+◌, Bool, true, fa
 use Rattle.std.specs.List.{range_with_len, filter}
 use Rattle.std.specs.Iterator.{AlwaysYields}
 use Rattle.std.proofs.lemmas.Iterator.{YieldsList}
-use Rattle.tables.specs.Names.{rises}
+use Rattle.tables.specs.Names.{Rises}
 use Rattle.tables.specs.Relations.{count}
 use Rattle.tables.specs.declared.span.Names.{Names}
 
-turns : (n a : ℕ) (s : Names) → s.numbers.start ≡ a → s.numbers.end ≡ a + n → AlwaysYields rises (λ x. x.number) s (range_with_len a n)
+turns : (n a : ℕ) (s : Names) → s.numbers.start ≡ a → s.numbers.end ≡ a + n → AlwaysYields Rises (λ x. x.number) s (range_with_len a n)
 turns zero a s e f = λ x j p. omega (arith, p.1)
 turns (suc n) a s e f = (
   λ j p. omega (arith, p.1),
   λ x j p. (sym p.1.0 ∙ e, turns n (a + 1) j (omega (arith, p.1)) (omega (arith, p.0))),
 )
 
-pub names_in_turn : (n : ℕ) (s : Names) → s.numbers.start ≡ 0 → s.numbers.end ≡ n → YieldsList rises (λ x. x.number) s (range_with_len 0 n)
+pub names_in_turn : (n : ℕ) (s : Names) → s.numbers.start ≡ 0 → s.numbers.end ≡ n → YieldsList Rises (λ x. x.number) s (range_with_len 0 n)
 names_in_turn n s e f = record { runs = turns n 0 s e (omega arith) }
 
 -- a count, with the first number apart

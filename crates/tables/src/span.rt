@@ -42,11 +42,11 @@ pub(crate) struct Names {
 }
 
 impl Iterator for Names {
-    ghost use Rattle.tables.specs.Names.{rises};
+    ghost use Rattle.tables.specs.Names.{Rises};
 
     type Item = Name;
 
-    ghost next_gives = { rises };
+    ghost next_gives = { Rises };
 
     ghost remaining = { λ s. at_most (s.numbers.end - s.numbers.start) };
 
