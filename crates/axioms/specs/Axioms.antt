@@ -15,6 +15,7 @@ use Rattle.axioms.specs.Ordered.{Ground, refuse}
 abbrev pub names_apart : Kind → ℕ → ℕ → Bool
 names_apart k left right = not ((row k).differ && left == right)
 
+-- the counts are two numbers, and no record: rules and cases speak of any two, and a record of them would be no plainer
 module _ (classes properties : ℕ) where
   -- how many names of a sort there are
   abbrev pub count : Sort → ℕ

@@ -1,5 +1,6 @@
 //! An axiom, and its numbers as they come in.
 ghost use Rattle.std.specs.Prelude.{◌≡◌};
+ghost use Rattle.axioms.specs.Kinds.{row};
 ghost use Rattle.axioms.specs.Raw.{raw_of};
 
 use crate::kinds::Kind;
@@ -12,7 +13,8 @@ pub struct Axiom {
     pub trust: u16,
 }
 
-/// The numbers of an axiom as they come in, unchecked.
+/// The numbers of an axiom as they come in, unchecked. The kind is a number too, so that one of no kind is refused as such:
+/// the project asks for it.
 #[derive(Clone, Copy, PartialEq, Eq, Debug)]
 pub struct RawAxiom {
     pub kind: u16,
@@ -21,16 +23,30 @@ pub struct RawAxiom {
     pub trust: u16,
 }
 
+impl RawAxiom {
+    /// Numbers for an axiom of that kind.
+    pub fn new(kind: Kind, left: u16, right: u16, trust: u16) -> RawAxiom
+        ensures has_the_code_and_the_numbers { result ≡ record { kind = (row kind).code; left = left; right = right; trust = trust } }
+    {
+        RawAxiom {
+            kind: u16::from(kind.code()),
+            left,
+            right,
+            trust,
+        }
+    }
+}
+
 /// The numbers that state an axiom.
 impl From<Axiom> for RawAxiom {
     ghost from_gives = { λ stated raw. raw ≡ raw_of stated };
 
     fn from(stated: Axiom) -> RawAxiom {
-        RawAxiom {
-            kind: u16::from(stated.kind.code()),
-            left: u16::from(stated.left),
-            right: u16::from(stated.right),
-            trust: stated.trust,
-        }
+        RawAxiom::new(
+            stated.kind,
+            u16::from(stated.left),
+            u16::from(stated.right),
+            stated.trust,
+        )
     }
 }

@@ -52,7 +52,8 @@ pub enum Cause {
 }
 
 impl Cause {
-    /// The number by which documents and programs name the cause.
+    /// The number by which documents and programs name the cause. Like `Kind::code` it is one line: a trait for the two
+    /// would be no plainer.
     pub fn number(self) -> u8
         ensures is_the_number { result ≡ cause_number self }
     {

@@ -54,12 +54,12 @@ fn place_of(line: &str, counts: Counts) -> Result<Option<Axiom>, Fault> {
     }
     let mut words = line.split(' ');
     let kind = kind_of(words.next().ok_or(Fault::Malformed)?)?;
-    let raw = RawAxiom {
-        kind: u16::from(kind.code()),
-        left: number(&mut words)?,
-        right: number(&mut words)?,
-        trust: number(&mut words)?,
-    };
+    let raw = RawAxiom::new(
+        kind,
+        number(&mut words)?,
+        number(&mut words)?,
+        number(&mut words)?,
+    );
     ended(&mut words)?;
     Ok(Some(check(raw, counts)?))
 }

@@ -30,7 +30,9 @@ impl Table {
         }
     }
 
-    /// The pairs that a pair of `self` and a pair of `right` lead to, by way of a name of the span `middles`.
+    /// The pairs that a pair of `self` and a pair of `right` lead to, by way of a name of the span `middles`. Here and below
+    /// the spans are parameters: a table with spans of its own could be read and closed over no others, which asks more of
+    /// callers.
     pub fn times(&self, right: &Table, lefts: Span, middles: Span) -> Table
         ensures is_the_product { Agree lefts.names 64 (cell result) (product middles.names (cell self.now) (cell right.now)) }
         ensures other_rows_are_empty { SameFrom lefts.names (cell result) nothing }

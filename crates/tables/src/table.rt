@@ -7,7 +7,7 @@ ghost use Rattle.tables.specs.Tables.{cell};
 use crate::name_set::NameSet;
 use crate::span::{Name, Span};
 
-/// A set of right names for each left name below 64.
+/// A set of right names for each left name below 64, in fixed memory.
 #[derive(Drop)]
 pub struct Table {
     rows: [NameSet; 64],

@@ -6,6 +6,7 @@ use sheets::{Sheet, Workbook};
 use std::io;
 
 /// Puts each place of the book into the theory. A workbook's axioms are well formed under its counts, so none is refused.
+/// A sheet is asked place by place: the project asks for that, so there is no iterator to take.
 fn fill(theory: &mut Theory, book: &Workbook) {
     for place in 0..book.places() {
         if let Ok(found) = book.at(place) {

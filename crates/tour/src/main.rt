@@ -11,19 +11,10 @@ use sheets::{Floor, OpenSheet, SLOTS, Sheet, Workbook};
 use shown::{Answer, Sentence};
 use std::{fmt, io};
 
-fn raw(kind: Kind, left: u16, right: u16, trust: u16) -> RawAxiom {
-    RawAxiom {
-        kind: u16::from(kind.code()),
-        left,
-        right,
-        trust,
-    }
-}
-
 /// States the sample's axioms, and says at which place each stands.
 fn state_all(rt: &impl Print, book: &mut Workbook) -> io::Result<()> {
     for (kind, left, right, trust) in sample::STATEMENTS {
-        match book.state(raw(kind, left, right, trust)) {
+        match book.state(RawAxiom::new(kind, left, right, trust)) {
             Ok(place) => println!(rt; "place {place}: {}", Answer(book.at(place)))?,
             Err(cause) => println!(rt; "a statement of the sample: refused with {cause}")?,
         }
@@ -66,7 +57,7 @@ fn try_withdrawal(
 fn fill(rt: &impl Print, counts: Counts) -> io::Result<()> {
     let mut book = Workbook::new(counts);
     for _ in 0..SLOTS {
-        let _ = book.state(raw(Kind::Csub, 1, 0, 50));
+        let _ = book.state(RawAxiom::new(Kind::Csub, 1, 0, 50));
     }
     let places = book.places();
     println!(rt; "a second workbook takes {places} statements")?;
@@ -74,7 +65,7 @@ fn fill(rt: &impl Print, counts: Counts) -> io::Result<()> {
         rt,
         &mut book,
         "the next statement",
-        raw(Kind::Csub, 1, 0, 50),
+        RawAxiom::new(Kind::Csub, 1, 0, 50),
     )
 }
 
@@ -106,13 +97,23 @@ fn tour(rt: &impl Print, counts: Counts, floor: Trust) -> io::Result<()> {
             trust: 50,
         },
     )?;
-    try_statement(rt, &mut book, "class 6 of 6", raw(Kind::Csub, 6, 0, 50))?;
-    try_statement(rt, &mut book, "trust 101", raw(Kind::Csub, 1, 0, 101))?;
+    try_statement(
+        rt,
+        &mut book,
+        "class 6 of 6",
+        RawAxiom::new(Kind::Csub, 6, 0, 50),
+    )?;
+    try_statement(
+        rt,
+        &mut book,
+        "trust 101",
+        RawAxiom::new(Kind::Csub, 1, 0, 101),
+    )?;
     try_statement(
         rt,
         &mut book,
         "Tile disjoint from itself",
-        raw(Kind::Cdis, 1, 1, 50),
+        RawAxiom::new(Kind::Cdis, 1, 1, 50),
     )?;
     fill(rt, counts)?;
     println!(rt; "Closing the book")?;

@@ -5,7 +5,8 @@ pub(crate) const CLASSES: u16 = 6;
 
 pub(crate) const PROPERTIES: u16 = 4;
 
-/// The axioms of the vocabulary, in the order in which they are stated: kind, left, right, trust.
+/// The axioms of the vocabulary, in the order in which they are stated: kind, left, right, trust. As tuples each takes one
+/// line, and as structs six.
 pub(crate) const STATEMENTS: [(Kind, u16, u16, u16); 10] = [
     (Kind::Csub, 1, 0, 95),
     (Kind::Csub, 2, 0, 95),

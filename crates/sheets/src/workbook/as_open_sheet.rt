@@ -19,6 +19,7 @@ impl OpenSheet for Workbook {
 
     fn state(&mut self, raw: RawAxiom) -> Result<usize, Cause> {
         let stated = check(raw, self.counts)?;
+        // `try_push` would hand back the axiom in an error that is dropped, which is no plainer.
         if self.slots.is_full() {
             return Err(Cause::NoRoom);
         }
