@@ -5,3 +5,4 @@ pub mod Limits
 pub mod Axioms
 pub mod Steps
 pub mod Raw
+pub mod Trusts

@@ -1,6 +1,5 @@
 //! How far an axiom is trusted.
-ghost use Rattle.std.specs.Prelude.{◌≡◌, true, false, MatchResult};
-ghost use Rattle.axioms.specs.declared.causes.Cause.TheVariants.{TrustOutOfRange};
+ghost use Rattle.std.specs.Prelude.{◌≡◌, true};
 ghost use Rattle.axioms.specs.Limits.{in_trust};
 
 use crate::causes::Cause;
@@ -18,11 +17,15 @@ pub struct Trust {
 
 /// The trust, or a refusal where the number is not 1 to 100.
 impl TryFrom<u16> for Trust {
+    ghost use Rattle.axioms.specs.Trusts.{MakesTrust};
+
     type Error = Cause;
 
-    ghost try_from_gives = { λ number r. MatchResult r (λ t. t.value ≡ number) (λ e. (e ≡ TrustOutOfRange) × (in_trust number ≡ false)) };
+    ghost try_from_gives = { MakesTrust };
 
-    fn try_from(value: u16) -> Result<Trust, Cause> {
+    fn try_from(value: u16) -> Result<Trust, Cause>
+        ensures trust_exactly_when_in_range { MakesTrust value result }
+    {
         if value < LEAST_TRUST || value > MOST_TRUST {
             return Err(Cause::TrustOutOfRange);
         }
