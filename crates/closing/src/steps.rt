@@ -1,4 +1,5 @@
-//! What each stage does: the relations that it closes, from those of the stages before.
+//! What each stage does: the relations that it closes, from those of the stages before. Each closes other relations by other
+//! rules, so they are no instances of one function.
 ghost use Rattle.axioms.specs.declared.kinds.Kind.TheVariants.{Csub, Psub, Cdis, Pdis, Dom, Ran, Psubinv, Pdisinv};
 ghost use Rattle.closing.specs.Exactness.{Exact, ExactBoth, ExactTo};
 

@@ -66,6 +66,7 @@ pub extern "C" fn close_digest(classes: u8, properties: u8, axioms: &[u8]) -> u3
     };
     let closed = theory.closed();
     let mut digest = 0u32;
+    // By numbers, since it reads at and past the counts too.
     for kind in Kind::all() {
         for left in 0u8..64 {
             for right in 0u8..64 {

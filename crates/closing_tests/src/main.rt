@@ -13,6 +13,7 @@ fn report(rt: &impl Print, theory: &Theory) -> io::Result<()> {
     let empty = closed.empty_names();
     println!(rt; "axioms {axioms}")?;
     println!(rt; "empty {empty}")?;
+    // As in the tour; an iterator of its own over names would take more lines than the two chains.
     let counts = theory.counts();
     let classes = (0..counts.classes).map(Name::Class);
     let properties = (0..counts.properties).map(Name::Property);

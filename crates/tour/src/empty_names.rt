@@ -25,6 +25,7 @@ fn yes_or_no(answer: Option<bool>) -> &'static str {
 
 /// Prints each name that is empty.
 fn list(rt: &impl Print, fifth: &Stage5<'_>, counts: Counts) -> io::Result<()> {
+    // As in the test program; an iterator of its own over names would take more lines than the two chains.
     let classes = (0..counts.classes).map(Name::Class);
     let properties = (0..counts.properties).map(Name::Property);
     for name in classes

@@ -69,7 +69,7 @@ fn fill(rt: &impl Print, counts: Counts) -> io::Result<()> {
     )
 }
 
-/// What both sheets answer, place by place and once past the end.
+/// What both sheets answer, place by place and once past the end, as no iterator over the places would.
 fn compare(rt: &impl Print, layered: &Floor<&Workbook>) -> io::Result<()> {
     for place in 0..=layered.places() {
         println!(rt; "place {place}")?;

@@ -23,6 +23,7 @@ fn stage_of(kind: Kind) -> u8
 
 impl<'a, const N: u8> Stage<'a, N> {
     /// What is known at this stage: nothing before the relation's own stage, and from then on whether it can be derived.
+    /// The kind and the names are parameters by themselves: a struct of them would make each call longer.
     pub fn known(&self, kind: Kind, left: u8, right: u8) -> Option<bool>
         ensures tells_from_its_stage_on { ReadAt N (theory_of self.now) kind left right result }
     {
