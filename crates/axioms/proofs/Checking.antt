@@ -1,5 +1,6 @@
 -- The steps of the check answer as the raw numbers' grounds say.
 use Rattle.std.proofs.Common.{◌≡◌, ℕ, Bool, true, false, not, eqb, ◌⊎◌, ◌↔◌, Some, None, Ok, Err, Option, Result, sym, refl, ap, ◌∙◌, subst, inl, inr, ⊎_elim}
+use Rattle.std.specs.Prelude.{IsErrAnd}
 use Rattle.std.proofs.lemmas.Bool.{both_ways, cases_Bool, cond-true, cond-false, eq-eqb, ne_eqb, and_from, and_left, and_right}
 use Rattle.axioms.specs.declared.kinds.Kind.{Kind}
 use Rattle.axioms.specs.declared.axiom_types.Axiom.{Axiom}
@@ -20,19 +21,34 @@ module _ (c p : ℕ) (raw : RawAxiom) where
   Outcome (Ok a) = States raw a × (well_formed c p a ≡ true)
   Outcome (Err e) = FirstFitting (raw_grounds c p raw) e
 
-  pub axiom_exactly : (r : Result Axiom Cause) → Outcome r → (a : Axiom) → (r ≡ Ok a) ↔ (States raw a × (well_formed c p a ≡ true))
+  axiom_exactly : (r : Result Axiom Cause) → Outcome r → (a : Axiom) → (r ≡ Ok a) ↔ (States raw a × (well_formed c p a ≡ true))
   axiom_exactly (Ok b) o a =
       (λ e. let is : b ≡ a = cc in subst (λ x. States raw x × (well_formed c p x ≡ true)) is o, λ h. ap Ok (same_axiom raw b a o.0 h.0))
   axiom_exactly (Err e) o a =
       (λ h. cc, λ h. absurd (none_not_first (raw_grounds c p raw) e (no_cause_for_formed c p raw a h.0 h.1) o))
 
-  pub cause_exactly : (r : Result Axiom Cause) → Outcome r → (e : Cause) → (r ≡ Err e) ↔ FirstFitting (raw_grounds c p raw) e
+  cause_exactly : (r : Result Axiom Cause) → Outcome r → (e : Cause) → (r ≡ Err e) ↔ FirstFitting (raw_grounds c p raw) e
   cause_exactly (Ok a) o e =
       (λ h. cc, λ f. absurd (none_not_first (raw_grounds c p raw) e (no_cause_for_formed c p raw a o.0 o.1) f))
   cause_exactly (Err d) o e = (
     λ h. let is : d ≡ e = cc in subst (λ x. FirstFitting (raw_grounds c p raw) x) is o,
     λ f. ap Err (first_unique (raw_grounds c p raw) (refuse_single _ _, (refuse_single _ _, (refuse_single _ _, (refuse_single _ _, tt)))) d e o f),
   )
+
+  -- so the check's promise is kept
+  abbrev Promise : Result Axiom Cause → Type 0
+  Promise r = record {
+    axiom_exactly_when_well_formed : (a : Axiom) → (r ≡ Ok a) ↔ (States raw a × (well_formed c p a ≡ true));
+    else_the_first_cause : (e : Cause) → (r ≡ Err e) ↔ FirstFitting (raw_grounds c p raw) e;
+  }
+
+  pub settled : (r : Result Axiom Cause) → Outcome r → Promise r
+  settled r o = record { axiom_exactly_when_well_formed = axiom_exactly r o; else_the_first_cause = cause_exactly r o }
+
+  -- also where a `?` passes a cause on
+  pub passed_on : (r : Result Axiom Cause) (d e : Cause) → IsErrAnd r (λ x. x ≡ d) → d ≡ e → Outcome (Err e) → Promise r
+  passed_on (Ok a) d e h is o = absurd h
+  passed_on (Err x) d e h is o = settled (Err x) (subst (λ z. Outcome (Err z)) (sym (h ∙ is)) o)
 
   -- the first step refuses as the first two grounds say
   unknown : kind_of raw.kind ≡ None → (k : Kind) → (row k).code ≡ raw.kind → ⊥
