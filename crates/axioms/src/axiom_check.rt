@@ -11,12 +11,13 @@ use crate::kinds::Kind;
 use crate::trust::Trust;
 
 /// The kind of the raw numbers, whose names are below the counts that the kind asks for. One match over the codes, with
-/// the counts in its guards: the project asks for that form, so there is no `TryFrom` from a code.
+/// the counts in its guards: a form that the project asks for (docs/DECISIONS.md), so there is no `TryFrom` from a code.
 fn kind_in_range(raw: RawAxiom, counts: Counts) -> Result<Kind, Cause>
     ensures { result ≡ ranged counts.classes counts.properties raw (kind_of raw.kind) }
 {
     let (left, right) = (raw.left, raw.right);
-    let (classes, properties) = (counts.classes as u16, counts.properties as u16);
+    let classes = u16::from(counts.classes);
+    let properties = u16::from(counts.properties);
     match raw.kind {
         1 | 3 if left >= classes || right >= classes => Err(Cause::NameOutOfRange),
         2 | 4 | 7..=8 if left >= properties || right >= properties => Err(Cause::NameOutOfRange),

@@ -49,7 +49,8 @@ impl Kind {
         ]
     }
 
-    /// The number by which raw input names the kind.
+    /// The number by which raw input names the kind. Like `Cause::number` it is one line: a trait for the two would be no
+    /// plainer.
     pub fn code(self) -> u8
         ensures is_the_code { result ≡ (row self).code }
     {

@@ -1,4 +1,4 @@
-//! Products of relations, as tables.
+//! Products of relations, as tables. The two spans of a product or a clash differ in role, so they are two parameters.
 ghost use Rattle.std.specs.Prelude.{◌≡◌, ℕ, ◌<◌, ◌&&◌, ◌||◌, ◌==◌};
 ghost use Rattle.tables.specs.Relations.{Agree, SameFrom, nothing, some, product, turned, clash};
 ghost use Rattle.tables.specs.Sets.{has};
@@ -30,9 +30,7 @@ impl Table {
         }
     }
 
-    /// The pairs that a pair of `self` and a pair of `right` lead to, by way of a name of the span `middles`. Here and below
-    /// the spans are parameters: a table with spans of its own could be read and closed over no others, which asks more of
-    /// callers.
+    /// The pairs that a pair of `self` and a pair of `right` lead to, by way of a name of the span `middles`.
     pub fn times(&self, right: &Table, lefts: Span, middles: Span) -> Table
         ensures is_the_product { Agree lefts.names 64 (cell result) (product middles.names (cell self.now) (cell right.now)) }
         ensures other_rows_are_empty { SameFrom lefts.names (cell result) nothing }

@@ -51,7 +51,7 @@ impl SignedTable {
         // Both are read before either is written, since the rows may be one.
         let ahead = self.along.row(middle);
         let turned = self.against.row(middle);
-        // By `when`, since with an `if` for each sign in its place a whole closing took a twentieth longer.
+        // By `when`: with an `if` for each sign the benchmark's ratio to plain Rust rose from 1.14 to 1.19.
         self.along
             .add(left, ahead.when(along).union(turned.when(against)));
         self.against

@@ -1,5 +1,5 @@
 //! Names, and how many of them a relation is over.
-ghost use Rattle.std.specs.Prelude.{◌≡◌, ◌-◌, ◌<◌, ◌≤◌};
+ghost use Rattle.std.specs.Prelude.{◌≡◌, ◌-◌, ◌<◌, ◌≤◌, MatchOption};
 ghost use Rattle.std.specs.Iterator.{at_most};
 
 use std::ops::Range;
@@ -11,7 +11,8 @@ pub(crate) struct Name {
     ghost small: { number < 64 },
 }
 
-/// The names below a count of at most 64.
+/// The names below a count of at most 64. A call takes each of its spans by itself, since they differ in role: left names,
+/// right names, and names by way of which.
 #[derive(Clone, Copy)]
 pub struct Span {
     pub names: u8,
@@ -21,6 +22,18 @@ pub struct Span {
 impl Span {
     /// The names that a table has a row for.
     pub(crate) const ALL: Span = Span { names: 64 };
+
+    /// The name of that number, if the span has it.
+    pub(crate) fn name(self, number: u8) -> Option<Name>
+        ensures the_name_if_below { MatchOption result (self.names ≤ number) (λ name. (name.number ≡ number) × (number < self.names)) }
+    {
+        // Not by `then`, whose closure would have to be told again that the number is below.
+        if number < self.names {
+            Some(Name { number })
+        } else {
+            None
+        }
+    }
 
     /// Its names, rising.
     pub(crate) fn each(self) -> Names

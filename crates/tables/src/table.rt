@@ -25,7 +25,7 @@ impl Table {
     pub(crate) fn row(&self, name: Name) -> NameSet
         ensures { (j : ℕ) → has result j ≡ cell self.now name.number j }
     {
-        self.rows[name.number as usize]
+        self.rows[usize::from(name.number)]
     }
 
     pub(crate) fn at(&self, left: Name, right: Name) -> bool
@@ -34,13 +34,14 @@ impl Table {
         self.row(left).contains(right)
     }
 
-    /// What stands between two names of the spans, and false elsewhere.
+    /// What stands between two names of the spans, and false elsewhere. Two spans, since left and right differ in role.
     pub fn read(&self, left: u8, right: u8, lefts: Span, rights: Span) -> bool
         ensures holds_within_the_spans { result ≡ (nat_lt left lefts.names && (nat_lt right rights.names && cell self.now left right)) }
     {
-        left < lefts.names
-            && right < rights.names
-            && self.at(Name { number: left }, Name { number: right })
+        match (lefts.name(left), rights.name(right)) {
+            (Some(left), Some(right)) => self.at(left, right),
+            _ => false,
+        }
     }
 
     /// Adds to the row `into` the names of a set.
@@ -48,7 +49,7 @@ impl Table {
     pub(crate) fn add(&mut self, into: Name, added: NameSet)
         ensures { Agree 64 64 (cell self.new) (λ i j. cell self.old i j || (i == into.number && has added j)) }
     {
-        let row = &mut self.rows[into.number as usize];
+        let row = &mut self.rows[usize::from(into.number)];
         *row = row.union(added);
     }
 
@@ -63,8 +64,8 @@ impl Table {
     pub fn mark(&mut self, left: u8, right: u8)
         ensures one_pair_more { Agree 64 64 (cell self.new) (marked left right (cell self.old)) }
     {
-        if left < 64 && right < 64 {
-            self.add_pair(Name { number: left }, Name { number: right });
+        if let (Some(left), Some(right)) = (Span::ALL.name(left), Span::ALL.name(right)) {
+            self.add_pair(left, right);
         }
     }
 
