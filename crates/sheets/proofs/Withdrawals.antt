@@ -18,7 +18,7 @@ module _ (n : Counts) (used : List (Option Axiom)) (k : ℕ) (within : k < lengt
   refused_vacant h =
       inr (λ r x. cc, inr (λ r x. omega (arith, within, simp length-map at x.0), inl (within_slots n.classes n.properties used k None within ∙ ap of_slot h, refl)))
 
-  withdrawn : (a : Axiom) → slice_index_or used k (Some a) ≡ Some a → Withdrawn (book_of n used) k a (book_of n (slice_set used k None))
+  pub withdrawn : (a : Axiom) → slice_index_or used k (Some a) ≡ Some a → Withdrawn (book_of n used) k a (book_of n (slice_set used k None))
   withdrawn a h =
       let was = within_slots n.classes n.properties used k (Some a) within ∙ ap of_slot h in
       record {

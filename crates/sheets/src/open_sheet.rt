@@ -5,7 +5,8 @@ ghost use Rattle.sheets.specs.OpenSheets.{Open, NoFaultFewPlaces, Statement, Wit
 use crate::sheet::Sheet;
 use axioms::{Axiom, Cause, RawAxiom};
 
-/// That it has no fault, and few places, stands in what each call promises: the project asks for it.
+/// That it has no fault, and few places, stands in what each call promises: a form that the project asks for
+/// (docs/DECISIONS.md). What a refusal leaves relates the sheet before and after, so no type can carry it.
 pub trait OpenSheet: Sheet {
     /// Its content, how many more statements it takes, and whether it is held.
     ghost meaning: { Self → Open };
