@@ -17,6 +17,7 @@ abbrev pub Stated : List Axiom → Kind → ℕ → ℕ → Type 0
 Stated [] k l r = ⊥
 Stated (a ∷ axioms) k l r = Says a k l r ⊎ Stated axioms k l r
 
+-- here and in the other definitions the counts are two numbers, and no record: what is said holds of any two
 module _ (axioms : List Axiom) (classes properties : ℕ) where
   -- a case for what is stated, and one for each rule, by its number
   pub data Derives : Kind → ℕ → ℕ → Type 0 where

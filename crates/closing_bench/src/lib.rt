@@ -6,12 +6,12 @@ use closing::Theory;
 
 /// The axiom of four bytes: its kind, left, right and trust.
 fn axiom_of(bytes: [u8; 4], counts: Counts) -> Result<Axiom, Cause> {
-    let [kind, left, right, trust] = bytes;
+    let [kind, left, right, trust] = bytes.map(u16::from);
     let raw = RawAxiom {
-        kind: u16::from(kind),
-        left: u16::from(left),
-        right: u16::from(right),
-        trust: u16::from(trust),
+        kind,
+        left,
+        right,
+        trust,
     };
     check(raw, counts)
 }
@@ -23,57 +23,62 @@ fn theory_of(classes: u8, properties: u8, axioms: &[u8]) -> Result<Theory, Cause
     let mut theory = Theory::new(counts);
     let (each, _) = axioms.as_chunks::<4>();
     for (place, bytes) in each.iter().enumerate() {
-        if let Ok(stated) = axiom_of(*bytes, counts) {
-            let _ = theory.put(place, Some(stated));
-        }
+        let _ = theory.put(place, axiom_of(*bytes, counts).ok());
     }
     Ok(theory)
 }
 
-/// How many names are empty under the axioms. Like the two functions below, it answers the greatest number where a count
-/// is above 64, since a caller by the C calling convention takes no `Result`.
+/// What a function answers of the theory, or the greatest number where a count is above 64, since a caller by the C calling
+/// convention takes no `Result`.
+fn answered<F: FnOnce(&Theory) -> u32>(classes: u8, properties: u8, axioms: &[u8], answer: F) -> u32
+    requires { F.IsAlwaysCallable answer }
+{
+    match theory_of(classes, properties, axioms) {
+        Ok(theory) => answer(&theory),
+        Err(_) => u32::MAX,
+    }
+}
+
+/// How many names are empty under the axioms.
 #[unsafe(no_mangle)]
 pub extern "C" fn close_once(classes: u8, properties: u8, axioms: &[u8]) -> u32 {
-    theory_of(classes, properties, axioms).map_or(
-        u32::MAX,
-        |theory| u32::from(theory.closed().empty_names()),
-    )
+    answered(classes, properties, axioms, |theory| {
+        u32::from(theory.closed().empty_names())
+    })
 }
 
 /// Closes the axioms so many times. The answer is the sum over the rounds of the number of empty names and of one
 /// cell of pdisinv.
 #[unsafe(no_mangle)]
 pub extern "C" fn close_times(classes: u8, properties: u8, axioms: &[u8], times: u32) -> u32 {
-    let Ok(theory) = theory_of(classes, properties, axioms) else {
-        return u32::MAX;
-    };
-    let mut sum = 0u32;
-    for round in 0..times {
-        let closed = theory.closed();
-        let cell = closed.read(Kind::Pdisinv, (round % 64) as u8, (round / 64 % 64) as u8);
-        sum = sum
-            .wrapping_add(u32::from(closed.empty_names()))
-            .wrapping_add(u32::from(cell));
-    }
-    sum
+    answered(classes, properties, axioms, |theory| {
+        let mut sum = 0u32;
+        for round in 0..times {
+            let closed = theory.closed();
+            let cell = closed.read(Kind::Pdisinv, (round % 64) as u8, (round / 64 % 64) as u8);
+            sum = sum
+                .wrapping_add(u32::from(closed.empty_names()))
+                .wrapping_add(u32::from(cell));
+        }
+        sum
+    })
 }
 
 /// A number that depends on each cell of the eight closed relations.
 #[unsafe(no_mangle)]
 pub extern "C" fn close_digest(classes: u8, properties: u8, axioms: &[u8]) -> u32 {
-    let Ok(theory) = theory_of(classes, properties, axioms) else {
-        return u32::MAX;
-    };
-    let closed = theory.closed();
-    let mut digest = 0u32;
-    // By numbers, since it reads at and past the counts too.
-    for kind in Kind::all() {
-        for left in 0u8..64 {
-            for right in 0u8..64 {
-                let cell = u32::from(closed.read(kind, left, right));
-                digest = digest.wrapping_mul(31).wrapping_add(cell);
+    answered(classes, properties, axioms, |theory| {
+        let closed = theory.closed();
+        let mut digest = 0u32;
+        // By numbers, since it reads at and past the counts too.
+        for kind in Kind::all() {
+            for left in 0u8..64 {
+                for right in 0u8..64 {
+                    let cell = u32::from(closed.read(kind, left, right));
+                    digest = digest.wrapping_mul(31).wrapping_add(cell);
+                }
             }
         }
-    }
-    digest
+        digest
+    })
 }

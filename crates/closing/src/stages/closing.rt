@@ -1,5 +1,5 @@
-//! How each stage is had. The four that follow a stage close other relations by other rules, so one function for them would
-//! need a switch on the stage.
+//! How each stage is had. The four that follow a stage close other relations by other rules: one function for them would
+//! take the step as a closure, whose contract would say again what the step's says, and be no plainer.
 ghost use Rattle.std.specs.Prelude.{◌≡◌};
 ghost use Rattle.closing.specs.Stages.{theory_of};
 

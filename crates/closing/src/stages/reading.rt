@@ -8,7 +8,7 @@ ghost use Rattle.closing.specs.Theories.{Tells};
 use crate::stages::{Stage, Stage5};
 use axioms::Kind;
 
-/// The stage that closes a relation, by the number that stands in the type of the stage.
+/// The stage that closes a relation. A const parameter is a number, and so is this, which is compared with one.
 fn stage_of(kind: Kind) -> u8
     ensures { result ≡ stage_of kind }
 {
@@ -27,6 +27,7 @@ impl<'a, const N: u8> Stage<'a, N> {
     pub fn known(&self, kind: Kind, left: u8, right: u8) -> Option<bool>
         ensures tells_from_its_stage_on { ReadAt N (theory_of self.now) kind left right result }
     {
+        // Not by `then`, whose closure would need a clause of its own.
         if stage_of(kind) <= N {
             Some(self.held(kind, left, right))
         } else {
