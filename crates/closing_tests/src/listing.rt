@@ -21,12 +21,10 @@ fn number(words: &mut Split<'_, char>) -> Result<u16, Fault> {
 }
 
 fn ended(words: &mut Split<'_, char>) -> Result<(), Fault> {
-    match words.next() {
-        Some(_) => Err(Fault::Malformed),
-        None => Ok(()),
-    }
+    words.next().map_or(Ok(()), |_| Err(Fault::Malformed))
 }
 
+/// The kind of a word. No `FromStr` in the library, since this is the one caller: it would be no plainer.
 fn kind_of(word: &str) -> Result<Kind, Fault> {
     Kind::all()
         .into_iter()

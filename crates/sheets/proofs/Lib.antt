@@ -1,4 +1,4 @@
 pub mod FloorAnswers
 pub mod Slots
-mod Statements
-mod Withdrawals
+pub mod Statements
+pub mod Withdrawals

@@ -4,12 +4,7 @@ use sheets::{Fault, OpenSheet, Sheet, Workbook};
 use std::test::Fail;
 
 pub(crate) fn csub(left: u16, right: u16, trust: u16) -> RawAxiom {
-    RawAxiom {
-        kind: 1,
-        left,
-        right,
-        trust,
-    }
+    RawAxiom::new(Kind::Csub, left, right, trust)
 }
 
 pub(crate) fn axiom(left: u8, right: u8, trust: u16) -> Axiom {

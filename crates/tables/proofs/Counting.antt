@@ -6,6 +6,7 @@ use Rattle.std.proofs.lemmas.Iterator.{YieldsList}
 use Rattle.tables.specs.Names.{Rises}
 use Rattle.tables.specs.Relations.{count}
 use Rattle.tables.specs.declared.span.Names.{Names}
+use Rattle.tables.proofs.Sums.{count_none}
 
 turns : (n a : ℕ) (s : Names) → s.numbers.start ≡ a → s.numbers.end ≡ a + n → AlwaysYields Rises (λ x. x.number) s (range_with_len a n)
 turns zero a s e f = λ x j p. omega (arith, p.1)
@@ -22,10 +23,6 @@ count_first : (n : ℕ) (test : ℕ → Bool) → count (suc n) test ≡ cond (t
 unfolding count
 count_first zero test = refl
 count_first (suc n) test = omega (arith, count_first n test)
-
-count_none : (f : ℕ → Bool) → 0 ≡ count 0 f
-unfolding count
-count_none f = refl
 
 count_from : (n a : ℕ) (test f : ℕ → Bool) → ((k : ℕ) → test (a + k) ≡ f k) → length (filter test (range_with_len a n)) ≡ count n f
 count_from zero a test f same = count_none f

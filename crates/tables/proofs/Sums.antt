@@ -1,5 +1,5 @@
 -- Laws of tests over the numbers below a count, offered to the crates above.
-use Rattle.std.proofs.Common.{◌≡◌, ℕ, zero, suc, ◌<◌, Bool, true, false, ◌&&◌, ◌||◌, eqb, sym, refl, ap, ◌∙◌, inl, inr, arith}
+use Rattle.std.proofs.Common.{◌≡◌, ℕ, zero, suc, ◌+◌, ◌<◌, Bool, true, false, ◌&&◌, ◌||◌, eqb, sym, refl, ap, ◌∙◌, subst, inl, inr, add-one, arith}
 use Rattle.std.proofs.Math.Bool.{or-false, or_assoc, or_comm}
 use Rattle.std.proofs.lemmas.Bool.{or_cases, or_left, or_right, cases_lt, cases_eq, eq-eqb, ne_eqb}
 use Rattle.tables.specs.Relations.{some, count}
@@ -53,6 +53,22 @@ some_or (suc n) f g = swap (f n) (some n f) (g n) (some n g) ∙ ap (λ b. (f n 
     swap : (a b c d : Bool) → ((a || b) || (c || d)) ≡ ((a || c) || (b || d))
     swap true b c d = refl
     swap false b c d = sym (or_assoc b c d) ∙ ap (λ e. e || d) (or_comm b c) ∙ or_assoc c b d
+
+pub some_none : (test : ℕ → Bool) → false ≡ some 0 test
+unfolding some
+some_none test = refl
+
+pub count_none : (test : ℕ → Bool) → 0 ≡ count 0 test
+unfolding count
+count_none test = refl
+
+pub count_taken : (n : ℕ) (test : ℕ → Bool) → test n ≡ true → count n test + 1 ≡ count (n + 1) test
+unfolding count
+count_taken n test h = subst (λ m. count n test + 1 ≡ count m test) (sym (add-one n)) (rw h (omega arith))
+
+pub count_left : (n : ℕ) (test : ℕ → Bool) → test n ≡ false → count n test ≡ count (n + 1) test
+unfolding count
+count_left n test h = subst (λ m. count n test ≡ count m test) (sym (add-one n)) (rw h (omega arith))
 
 pub count_like : (n : ℕ) (f g : ℕ → Bool) → ((k : ℕ) → k < n → f k ≡ g k) → count n f ≡ count n g
 unfolding count

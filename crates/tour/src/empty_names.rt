@@ -5,8 +5,8 @@ use closing::{Name, Stage1, Stage2, Stage3, Stage4, Stage5, Theory};
 use sheets::{Sheet, Workbook};
 use std::io;
 
-/// Puts each place of the book into the theory. A workbook's axioms are well formed under its counts, so none is refused.
-/// A sheet is asked place by place: the project asks for that, so there is no iterator to take.
+/// Puts each place of the book into the theory, at the same number, by which a sheet is asked and a theory filled. A
+/// workbook's axioms are well formed under its counts, so none is refused.
 fn fill(theory: &mut Theory, book: &Workbook) {
     for place in 0..book.places() {
         if let Ok(found) = book.at(place) {
@@ -15,6 +15,7 @@ fn fill(theory: &mut Theory, book: &Workbook) {
     }
 }
 
+/// A word for each of the three answers: `map_or` and an `if` would be no plainer.
 fn yes_or_no(answer: Option<bool>) -> &'static str {
     match answer {
         Some(true) => "yes",

@@ -13,13 +13,17 @@ use std::{fmt, io};
 
 /// States the sample's axioms, and says at which place each stands.
 fn state_all(rt: &impl Print, book: &mut Workbook) -> io::Result<()> {
-    for (kind, left, right, trust) in sample::STATEMENTS {
-        match book.state(RawAxiom::new(kind, left, right, trust)) {
+    for stated in sample::statements() {
+        match book.state(stated) {
             Ok(place) => println!(rt; "place {place}: {}", Answer(book.at(place)))?,
-            Err(cause) => println!(rt; "a statement of the sample: refused with {cause}")?,
+            Err(cause) => refused(rt, "a statement of the sample", cause)?,
         }
     }
     Ok(())
+}
+
+fn refused(rt: &impl Print, what: impl fmt::Display + Drop, cause: Cause) -> io::Result<()> {
+    println!(rt; "{what}: refused with {cause}")
 }
 
 /// Says how a statement or a withdrawal fares: what it did, or why it is refused.
@@ -31,7 +35,7 @@ fn tell<T: fmt::Display + Drop>(
 ) -> io::Result<()> {
     match outcome {
         Ok(answer) => println!(rt; "{what}: {did} {answer}"),
-        Err(cause) => println!(rt; "{what}: refused with {cause}"),
+        Err(cause) => refused(rt, what, cause),
     }
 }
 
@@ -132,17 +136,18 @@ fn tour(rt: &impl Print, counts: Counts, floor: Trust) -> io::Result<()> {
 /// The tour over a book with so many classes and that floor, if there can be such.
 fn try_tour(rt: &impl Print, classes: u16, floor: u16) -> io::Result<()> {
     match (
-        Counts::check(classes, sample::PROPERTIES),
+        Counts::check(classes, sample::PROPERTIES.len() as u16),
         Trust::try_from(floor),
     ) {
-        (Err(cause), _) => println!(rt; "a workbook for {classes} classes: refused with {cause}"),
-        (_, Err(cause)) => println!(rt; "a floor of {floor}: refused with {cause}"),
+        (Err(cause), _) => refused(rt, format_args!("a workbook for {classes} classes"), cause),
+        (_, Err(cause)) => refused(rt, format_args!("a floor of {floor}"), cause),
         (Ok(counts), Ok(floor)) => tour(rt, counts, floor),
     }
 }
 
 fn main(rt: HostRuntime) -> io::Result<()> {
+    let classes = sample::CLASSES.len() as u16;
     try_tour(&rt, 65, sample::FLOOR)?;
-    try_tour(&rt, sample::CLASSES, 0)?;
-    try_tour(&rt, sample::CLASSES, sample::FLOOR)
+    try_tour(&rt, classes, 0)?;
+    try_tour(&rt, classes, sample::FLOOR)
 }
