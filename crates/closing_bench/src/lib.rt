@@ -29,7 +29,7 @@ fn theory_of(classes: u8, properties: u8, axioms: &[u8]) -> Result<Theory, Cause
 }
 
 /// What a function answers of the theory, or the greatest number where a count is above 64, since a caller by the C calling
-/// convention takes no `Result`.
+/// convention takes no `Result`. The counts and the bytes come by themselves, as that convention passes them.
 fn answered<F: FnOnce(&Theory) -> u32>(classes: u8, properties: u8, axioms: &[u8], answer: F) -> u32
     requires { F.IsAlwaysCallable answer }
 {

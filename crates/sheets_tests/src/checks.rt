@@ -56,6 +56,7 @@ fn the_first_cause_that_fits_is_answered(rt: HostRuntime) {
 
 #[test]
 fn a_name_may_be_below_itself_or_its_own_inverse(rt: HostRuntime) {
+    // By their codes, since the check of raw numbers is what is tested.
     for kind in [1u16, 2, 7, 8] {
         assert!(rt; checked(kind, 2, 2, 50).is_ok());
     }

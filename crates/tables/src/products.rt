@@ -1,4 +1,5 @@
-//! Products of relations, as tables. The two spans of a product or a clash differ in role, so they are two parameters.
+//! Products of relations, as tables. The two spans of a product or a clash differ in role, so they are two parameters. That
+//! other rows stay relates a table before and after, here and in the closings, so no type can carry it.
 ghost use Rattle.std.specs.Prelude.{◌≡◌, ℕ, ◌<◌, ◌&&◌, ◌||◌, ◌==◌};
 ghost use Rattle.tables.specs.Relations.{Agree, SameFrom, nothing, some, product, turned, clash};
 ghost use Rattle.tables.specs.Sets.{has};

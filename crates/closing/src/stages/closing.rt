@@ -1,5 +1,6 @@
 //! How each stage is had. The four that follow a stage close other relations by other rules: one function for them would
-//! take the step as a closure, whose contract would say again what the step's says, and be no plainer.
+//! take the step as a closure, whose contract would say again what the step's says, and be no plainer. That a stage is over the
+//! theory of the one before relates two values, so it stands in each clause.
 ghost use Rattle.std.specs.Prelude.{◌≡◌};
 ghost use Rattle.closing.specs.Stages.{theory_of};
 

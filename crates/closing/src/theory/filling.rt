@@ -50,7 +50,8 @@ impl Theory {
         self.places.get(place).copied().flatten()
     }
 
-    /// Puts an axiom at a place, or makes the place vacant.
+    /// Puts an axiom at a place, or makes the place vacant. What a refusal leaves relates the theory before and after, so no
+    /// type can carry it.
     pub fn put(&mut self, place: usize, found: Option<Axiom>) -> Result<(), Cause>
         ensures filled_or_first_cause { MatchResult result (λ _. Filled self.old place found self.new) (λ e. FirstFitting (put_grounds (class_count self.old) (property_count self.old) place found) e) }
         ensures unchanged_when_refused { OnErr result (self.new ≡ self.old) }
