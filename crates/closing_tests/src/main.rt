@@ -3,7 +3,7 @@
 
 mod listing;
 
-use closing::{Name, Stage1, Stage2, Stage3, Stage4, Stage5, Theory};
+use closing::{Name, Theory};
 use listing::{Fault, theory_of};
 use std::io;
 

@@ -25,6 +25,7 @@ impl<S: Sheet> Floor<S> {
     }
 }
 
+/// The counts are passed on, as by a lent sheet: a default in the trait would have no sheet to ask.
 impl<S: Sheet> Sheet for Floor<S> {
     ghost content = { λ s. floor_content s.floor.value (S.Sheet.content s.below) };
 

@@ -46,7 +46,7 @@ impl NameSet {
         }
     }
 
-    /// The set itself if `held`, else none.
+    /// The set itself if `held`, else none. A flag beside a set, for speed: `SignedTable::merge_row` says why.
     pub(crate) fn when(self, held: bool) -> NameSet
         ensures { (j : ℕ) → has result j ≡ (held && has self j) }
     {
