@@ -13,8 +13,8 @@ pub struct Axiom {
     pub trust: u16,
 }
 
-/// The numbers of an axiom as they come in, unchecked. The kind is a number too, so that one of no kind is refused as such: a
-/// form that the project asks for (docs/DECISIONS.md).
+/// The numbers of an axiom as they come in, unchecked. The kind is a number too, since a statement is refused with cause 6
+/// for a number of no kind, which has to be able to come in.
 #[derive(Clone, Copy, PartialEq, Eq, Debug)]
 pub struct RawAxiom {
     pub kind: u16,

@@ -46,7 +46,7 @@ impl NameSet {
         }
     }
 
-    /// The set itself if `held`, else none. A flag beside a set, for speed: `SignedTable::merge_row` says why.
+    /// The set itself if `held`, else none. `SignedTable::merge_row` says why it stays.
     pub(crate) fn when(self, held: bool) -> NameSet
         ensures { (j : ℕ) → has result j ≡ (held && has self j) }
     {

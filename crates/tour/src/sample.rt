@@ -33,6 +33,7 @@ pub(crate) const MISTAKE: usize = 4;
 
 pub(crate) const FLOOR: u16 = 60;
 
+/// The word of a name. By sort and number, since an axiom has its names so: a struct of the two would be no plainer.
 pub(crate) fn name(sort: Sort, number: u8) -> &'static str {
     let words = match sort {
         Sort::Class => CLASSES.as_slice(),

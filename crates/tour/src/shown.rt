@@ -17,7 +17,7 @@ impl fmt::Display for Sentence {
     }
 }
 
-/// A name with what it is a name of.
+/// A name by its word, where its own `Display` has the number: no twin, since it needs the sample's words.
 #[derive(Clone, Copy)]
 pub struct Shown(pub Name);
 

@@ -56,7 +56,7 @@ impl Theory {
         ensures filled_or_first_cause { MatchResult result (λ _. Filled self.old place found self.new) (λ e. FirstFitting (put_grounds (class_count self.old) (property_count self.old) place found) e) }
         ensures unchanged_when_refused { OnErr result (self.new ≡ self.old) }
     {
-        // Not by `get_mut`, whose loan of the place would last over the check of the axiom.
+        // By number: with `get_mut` six goals stay open that the check finds here by itself, and it would be no plainer.
         if place >= PLACES {
             return Err(Cause::NoSuchPlace);
         }
