@@ -1,13 +1,16 @@
 //! Why a call is refused.
-ghost use Rattle.std.specs.Prelude.{◌≡◌, Some};
+ghost use Rattle.std.specs.Prelude.{◌≡◌, ◌==◌, Some};
+ghost use Rattle.std.specs.Cmp as Keys;
+ghost use Rattle.std.specs.Cmp.Rules.{comparing};
 ghost use Rattle.std.specs.Fmt.{decimal};
+ghost use Rattle.std.proofs.Common.{rules};
 ghost use Rattle.axioms.specs.Causes.{number as cause_number};
 
 use std::error::Error;
 use std::fmt;
 
 /// docs/REFUSALS.md says which call is refused with which of these, and in which order.
-#[derive(Clone, Copy, PartialEq, Eq, Debug)]
+#[derive(Clone, Copy, Eq, Debug)]
 pub enum Cause {
     /// There is no such place.
     NoSuchPlace = 1,
@@ -58,6 +61,18 @@ impl Cause {
         ensures is_the_number { result ≡ cause_number self }
     {
         self as u8
+    }
+}
+
+/// Written out and not derived, so that what makes two causes equal is a clause of this crate, with a body to hold it.
+impl PartialEq for Cause {
+    /// Causes are equal exactly when their numbers are.
+    ghost eq = { λ x y. (cause_number x == cause_number y) };
+
+    ghost laws = { Keys.partial_equiv_from_equiv (Prim.search (comparing, rules)) };
+
+    fn eq(&self, other: &Cause) -> bool {
+        self.number() == other.number()
     }
 }
 

@@ -39,7 +39,8 @@ fn answered<F: FnOnce(&Theory) -> u32>(classes: u8, properties: u8, axioms: &[u8
     }
 }
 
-/// How many names are empty under the axioms.
+/// How many names are empty under the axioms. Like the two functions below, it answers the greatest number where a count
+/// is above 64.
 #[unsafe(no_mangle)]
 pub extern "C" fn close_once(classes: u8, properties: u8, axioms: &[u8]) -> u32 {
     answered(classes, properties, axioms, |theory| {

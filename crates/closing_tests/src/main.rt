@@ -9,7 +9,10 @@ use std::io;
 
 fn report(rt: &impl Print, theory: &Theory) -> io::Result<()> {
     let closed = theory.closed();
-    let axioms = theory.places().iter().flatten().count();
+    // Place by place, so that what is compared with the stored text has gone through `at` too.
+    let axioms = (0..theory.places().len())
+        .filter(|place| theory.at(*place).is_some())
+        .count();
     let empty = closed.empty_names();
     println!(rt; "axioms {axioms}")?;
     println!(rt; "empty {empty}")?;

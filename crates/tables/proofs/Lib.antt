@@ -8,5 +8,4 @@ mod Digits
 mod Steps
 mod Rows
 mod Walking
-mod Counting
 mod Alone

@@ -5,11 +5,18 @@ use Rattle.std.proofs.lemmas.Bool.{cases_eq, eq-eqb, ne_eqb, lt-ltb, le-ltb}
 use Rattle.std.proofs.lemmas.Bool.Decides.{nat_tests}
 use Rattle.tables.specs.Relations.{product}
 use Rattle.tables.specs.Signed.{Signed, signed_product}
+use Rattle.tables.specs.Tables.{cell, cells}
+use Rattle.tables.specs.declared.signed.SignedTable.{SignedTable}
 use Rattle.tables.proofs.Sums.{some_or}
 
 -- two sets, each under a condition
 pub either : {z x y f g p q f' g' p' q' : Bool} → z ≡ (x || y) → x ≡ (f && p) → y ≡ (g && q) → f ≡ f' → g ≡ g' → p ≡ p' → q ≡ q' → z ≡ ((f' && p') || (g' && q'))
 either ez ex ey ef eg ep eq = rw (ez, ex, ey, ef, eg, ep, eq)
+
+-- two tables with no pair
+pub no_pair : (t : SignedTable) → ((i j : ℕ) → cell t.along i j ≡ false) → ((i j : ℕ) → cell t.against i j ≡ false) → (s : Bool) (i j : ℕ) → cells t s i j ≡ false
+no_pair t along against false = along
+no_pair t along against true = against
 
 -- a product added to a product
 pub signed_sum : (n : ℕ) (E F : Signed) (s : Bool) (i j : ℕ) (y z : Bool) → y ≡ product n (E false) (F s) i j → z ≡ (y || product n (E true) (F (not s)) i j) → z ≡ signed_product n E F s i j

@@ -26,6 +26,7 @@ impl Steps for SignedTable {
 }
 
 impl SignedTable {
+    #[tactic(auto, using(crate::proofs::Rows::no_pair))]
     pub fn none() -> SignedTable
         ensures holds_no_pair { (s : Bool) (i j : ℕ) → cells result s i j ≡ false }
     {

@@ -28,9 +28,11 @@ impl OpenSheet for Workbook {
         Ok(place)
     }
 
-    /// Taking from a vacant slot leaves it vacant, so a refused withdrawal changes nothing.
     fn withdraw(&mut self, place: usize) -> Result<Axiom, Cause> {
         let slot = self.slots.get_mut(place).ok_or(Cause::NoSuchPlace)?;
-        slot.take().ok_or(Cause::VacantPlace)
+        let withdrawn = slot.ok_or(Cause::VacantPlace)?;
+        // Not by `take`, which writes to a vacant slot too, and takes longer.
+        *slot = None;
+        Ok(withdrawn)
     }
 }
